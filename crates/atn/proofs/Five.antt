@@ -1,0 +1,91 @@
+-- The demands of each of the five entries, by its name.
+use mathlib.Core.Path.{_≡_, refl}
+use mathlib.Core.Bool.{Bool, true, false, _&&_}
+use mathlib.Core.List.{List, [], _∷_, _++_}
+use Prim.Native.Nat.{ℕ, _*_, _≤_, _<_}
+use lib.ListN.{length, drop, take}
+use Rattle.atn.specs.Format.{Fmt}
+use Rattle.atn.specs.Reading.{Rec}
+use Rattle.atn.specs.Messages.{aircraftPdus, groundPdus, cmGround, cmAircraft, acse}
+use Rattle.atn.specs.Entries.{Reply, accept, readFrame, orElse, Answer, accepted, refused, Outcome, flat, need, Test, test, enter, frame-fits, table-fits, direction-fits, pdus, parse-pdus, parse-apdu, parse-cm-ground, parse-cm-logon, parse-acse-apdu}
+use Rattle.atn.proofs.Readings.{Keeps, format-keeps, both-keep}
+use Rattle.atn.proofs.Outcomes.{passes, early, NoRoom}
+use Rattle.atn.proofs.Demands.{Message, Shares, CutOrOut, Enough, whole-again, bad-again, cut-to, words-left, room-refused, refused-room, reach-inside, refused-inside, clean-sound, clean-complete}
+
+-- an entry P of frame and words, which reads by F where all of the tests ts hold
+pub record Owes (ts : List Test) (F : List ℕ → Reply) (P : List ℕ → List ℕ → Outcome) : Type 0 where
+  pub whole : (s t w v : List ℕ) {p m k : ℕ} {w′ : List ℕ} → P s w ≡ (accepted false p m k, w′) → Shares s t w v p
+      → (R : List Rec) × (k ≡ length R) × (w′ ≡ flat R ++ drop (need R) w) × (P t v ≡ (accepted false p m k, flat R ++ drop (need R) v))
+  pub badlyFormed : (s t w v : List ℕ) {p k : ℕ} {w′ : List ℕ} → P s w ≡ (refused 5 p k, w′) → Shares s t w v p → P t v ≡ (refused 5 p k, v)
+  pub cutShort : (s w v : List ℕ) (j : ℕ) {p m k : ℕ} {w′ : List ℕ} → P s w ≡ (accepted false p m k, w′) → j * 8 < p → Enough (F (take j s)) v → CutOrOut (P (take j s) v)
+  pub left : (s w : List ℕ) {n p k : ℕ} {w′ : List ℕ} → P s w ≡ (refused n p k, w′) → w′ ≡ w
+  pub noRoom : (s w : List ℕ) {p k : ℕ} {w′ : List ℕ} → P s w ≡ (refused 7 p k, w′) → (frame-fits s ≡ true) × (passes ts ≡ true) × NoRoom (F s) w p k w′
+  pub noRoom⁻ : (s w : List ℕ) (c : Bool) (p m : ℕ) (R : List Rec) → frame-fits s ≡ true → passes ts ≡ true → F s ≡ accept c p m R → length w < need R → P s w ≡ (refused 7 p (need R), w)
+  pub within : (s w : List ℕ) {c : Bool} {p m k : ℕ} {w′ : List ℕ} → P s w ≡ (accepted c p m k, w′) → p ≤ length s * 8
+  pub within⁻ : (s w : List ℕ) {n p k : ℕ} {w′ : List ℕ} → P s w ≡ (refused n p k, w′) → p ≤ length s * 8
+
+-- an entry P that reads by the format f: clean answers are messages, and messages are given clean answers
+pub record ReadsClean (ts : List Test) (f : Fmt) (P : List ℕ → List ℕ → Outcome) : Type 0 where
+  pub sound : (s w : List ℕ) {p k : ℕ} {w′ : List ℕ} → P s w ≡ (accepted false p 0 k, w′) → (R : List Rec) × Message f s p R × (k ≡ length R) × (w′ ≡ flat R ++ drop (need R) w)
+  pub complete : (s w : List ℕ) (p : ℕ) (R : List Rec) → frame-fits s ≡ true → passes ts ≡ true → Message f s p R → need R ≤ length w → P s w ≡ (accepted false p 0 (length R), flat R ++ drop (need R) w)
+
+owes : (ts : List Test) (F : List ℕ → Reply) → Keeps F → early ts ≡ true → Owes ts F (λ s w. enter ts F s w)
+owes ts F k e =
+    record {
+      whole = λ s t w v h g. whole-again ts F k s t w v h g;
+      badlyFormed = λ s t w v h g. bad-again ts F k s t w v e h g;
+      cutShort = λ s w v j h l g. cut-to ts F k s w v j h l g;
+      left = λ s w h. words-left ts F k s w h;
+      noRoom = λ s w h. room-refused ts F k s w e h;
+      noRoom⁻ = λ s w c p m R h g i l. refused-room ts F k s w c p m R h g i l;
+      within = λ s w h. reach-inside ts F k s w h;
+      within⁻ = λ s w h. refused-inside ts F k s w h;
+    }
+
+reads-clean : (ts : List Test) (f : Fmt) → ReadsClean ts f (λ s w. enter ts (λ t. readFrame f t) s w)
+reads-clean ts f = record { sound = λ s w h. clean-sound ts f s w h; complete = λ s w p R h g m l. clean-complete ts f s w p R h g m l }
+
+---------------------------------------------------------------- the five
+
+abbrev pub pdus-tests : ℕ → List ℕ → List ℕ → List Test
+pdus-tests d down up = test (table-fits down && table-fits up) 2 ∷ test (direction-fits d) 3 ∷ []
+
+abbrev pub apdu-tests : List ℕ → List ℕ → List Test
+apdu-tests down up = test (table-fits down && table-fits up) 2 ∷ []
+
+pub parse-pdus-owes : (d : ℕ) (down up : List ℕ) → Owes (pdus-tests d down up) (λ s. readFrame (pdus d down up) s) (λ s w. parse-pdus s d down up w)
+unfolding parse-pdus early
+parse-pdus-owes d down up = owes (pdus-tests d down up) (λ s. readFrame (pdus d down up) s) (format-keeps (pdus d down up)) refl
+
+pub parse-apdu-owes : (down up : List ℕ) → Owes (apdu-tests down up) (λ s. orElse (readFrame (aircraftPdus down) s) (readFrame (groundPdus down up) s)) (λ s w. parse-apdu s down up w)
+unfolding parse-apdu early
+parse-apdu-owes down up =
+    owes (apdu-tests down up) (λ s. orElse (readFrame (aircraftPdus down) s) (readFrame (groundPdus down up) s)) (both-keep (λ s. readFrame (aircraftPdus down) s) (λ s. readFrame (groundPdus down up) s) (format-keeps (aircraftPdus down)) (format-keeps (groundPdus down up))) refl
+
+pub parse-cm-ground-owes : Owes [] (λ s. readFrame cmGround s) (λ s w. parse-cm-ground s w)
+unfolding parse-cm-ground early
+parse-cm-ground-owes = owes [] (λ s. readFrame cmGround s) (format-keeps cmGround) refl
+
+pub parse-cm-logon-owes : Owes [] (λ s. readFrame cmAircraft s) (λ s w. parse-cm-logon s w)
+unfolding parse-cm-logon early
+parse-cm-logon-owes = owes [] (λ s. readFrame cmAircraft s) (format-keeps cmAircraft) refl
+
+pub parse-acse-apdu-owes : Owes [] (λ s. readFrame acse s) (λ s w. parse-acse-apdu s w)
+unfolding parse-acse-apdu early
+parse-acse-apdu-owes = owes [] (λ s. readFrame acse s) (format-keeps acse) refl
+
+pub parse-pdus-clean : (d : ℕ) (down up : List ℕ) → ReadsClean (pdus-tests d down up) (pdus d down up) (λ s w. parse-pdus s d down up w)
+unfolding parse-pdus
+parse-pdus-clean d down up = reads-clean (pdus-tests d down up) (pdus d down up)
+
+pub parse-cm-ground-clean : ReadsClean [] cmGround (λ s w. parse-cm-ground s w)
+unfolding parse-cm-ground
+parse-cm-ground-clean = reads-clean [] cmGround
+
+pub parse-cm-logon-clean : ReadsClean [] cmAircraft (λ s w. parse-cm-logon s w)
+unfolding parse-cm-logon
+parse-cm-logon-clean = reads-clean [] cmAircraft
+
+pub parse-acse-apdu-clean : ReadsClean [] acse (λ s w. parse-acse-apdu s w)
+unfolding parse-acse-apdu
+parse-acse-apdu-clean = reads-clean [] acse

@@ -1,0 +1,12 @@
+pub mod Steps
+pub mod Complete
+pub mod Inverse
+pub mod Sound
+pub mod Reach
+pub mod SameBits
+pub mod Stable
+pub mod Agreement
+pub mod Readings
+pub mod Outcomes
+pub mod Demands
+pub mod Five

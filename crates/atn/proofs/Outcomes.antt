@@ -1,0 +1,114 @@
+-- From an entry's outcome back to its tests and its reading, and forth.
+use mathlib.Core.Path.{_≡_, refl, sym, ap, _∙_}
+use mathlib.Core.Bool.{Bool, true, false, cond, _&&_}
+use mathlib.Core.Logic.{_⊎_, inl, inr}
+use mathlib.Core.List.{List, [], _∷_, _++_}
+use Prim.Native.Nat.{ℕ, _+_, _*_, _≤_, _<_}
+use native.Mathlib.Omega.{arith}
+use lib.ListN.{length, drop}
+use lib.Dec.{leb}
+use borrow.Author.Tests.{leb-true, leb-false, le-leb, lt-leb}
+use Rattle.atn.specs.Reading.{Rec}
+use Rattle.atn.specs.Entries.{Reply, accept, ranOut, badly, unsupplied, Answer, accepted, refused, Outcome, flat, need, settle, Test, test, decide, enter, frame-fits}
+use Rattle.atn.proofs.Inverse.{both}
+use Rattle.atn.proofs.Readings.{replyReach}
+
+-- all tests hold
+unfoldable pub passes : List Test → Bool
+passes [] = true
+passes (test t n ∷ ts) = t && passes ts
+
+-- the tests refuse with document 01's first three numbers
+unfoldable pub early : List Test → Bool
+early [] = true
+early (test t n ∷ ts) = leb n 3 && early ts
+
+-- an accepted reading and its records in the words
+pub record Settled (r : Reply) (w : List ℕ) (c : Bool) (p m k : ℕ) (w′ : List ℕ) : Type 0 where
+  pub recs : List Rec
+  pub replied : r ≡ accept c p m recs
+  pub counted : k ≡ length recs
+  pub fits : need recs ≤ length w
+  pub words : w′ ≡ flat recs ++ drop (need recs) w
+
+-- an accepted reading whose records do not fit
+pub record NoRoom (r : Reply) (w : List ℕ) (p k : ℕ) (w′ : List ℕ) : Type 0 where
+  pub cut : Bool
+  pub marks : ℕ
+  pub recs : List Rec
+  pub replied : r ≡ accept cut p marks recs
+  pub needs : k ≡ need recs
+  pub full : length w < need recs
+  pub words : w′ ≡ w
+
+pub answers-differ : {A : Type 0} {c : Bool} {p m k n q l : ℕ} {w v : List ℕ} → _≡_ {A = Outcome} (accepted c p m k, w) (refused n q l, v) → A
+answers-differ h = let x = ap (λ (o : Outcome). o .0) h in let z : _≡_ {A = ℕ} 0 1 = cc in absurd (omega arith)
+
+---------------------------------------------------------------- the settlement
+
+settle-accepted : (r : Reply) (w : List ℕ) {c : Bool} {p m k : ℕ} {w′ : List ℕ} → settle r w ≡ (accepted c p m k, w′) → Settled r w c p m k w′
+unfolding settle
+settle-accepted (accept c′ p′ m′ R) w {c} {p} {m} {k} {w′} h = go (leb (need R) (length w)) refl h
+  where
+    go : (t : Bool) → leb (need R) (length w) ≡ t → _≡_ {A = Outcome} (cond t (accepted c′ p′ m′ (length R), flat R ++ drop (need R) w) (refused 7 p′ (need R), w)) (accepted c p m k, w′) → Settled (accept c′ p′ m′ R) w c p m k w′
+    go true q e = let x = ap (λ (o : Outcome). o .0) e in let y = ap (λ (o : Outcome). o .1) e in record { recs = R; replied = cc; counted = cc; fits = leb-true (need R) (length w) q; words = sym y }
+    go false q e = answers-differ (sym e)
+settle-accepted (ranOut p′) w h = answers-differ (sym h)
+settle-accepted (badly p′) w h = answers-differ (sym h)
+settle-accepted (unsupplied p′) w h = answers-differ (sym h)
+
+-- a refusal of the reading, or no room
+pub settle-refused : (r : Reply) (w : List ℕ) {n p k : ℕ} {w′ : List ℕ} → settle r w ≡ (refused n p k, w′) → (w′ ≡ w) × (replyReach r ≡ p) × (n ≡ 7 → NoRoom r w p k w′) × (n ≡ 5 → (r ≡ badly p) × (k ≡ 0))
+unfolding settle replyReach
+settle-refused (accept c′ p′ m′ R) w {n} {p} {k} {w′} h = go (leb (need R) (length w)) refl h
+  where
+    go : (t : Bool) → leb (need R) (length w) ≡ t → _≡_ {A = Outcome} (cond t (accepted c′ p′ m′ (length R), flat R ++ drop (need R) w) (refused 7 p′ (need R), w)) (refused n p k, w′)
+        → (w′ ≡ w) × (p′ ≡ p) × (n ≡ 7 → NoRoom (accept c′ p′ m′ R) w p k w′) × (n ≡ 5 → (accept c′ p′ m′ R ≡ badly p) × (k ≡ 0))
+    go true q e = answers-differ e
+    go false q e =
+        let x = ap (λ (o : Outcome). o .0) e in
+        let y = ap (λ (o : Outcome). o .1) e in
+        let z : 7 ≡ n = cc in
+        (sym y, (cc), (λ _. record { cut = c′; marks = m′; recs = R; replied = cc; needs = cc; full = leb-false (need R) (length w) q; words = sym y }), (λ f. absurd (omega arith)))
+settle-refused (ranOut p′) w {n} {p} {k} {w′} h = let x = ap (λ (o : Outcome). o .0) h in let z : 4 ≡ n = cc in (sym (ap (λ (o : Outcome). o .1) h), (cc), (λ f. absurd (omega arith)), (λ f. absurd (omega arith)))
+settle-refused (badly p′) w {n} {p} {k} {w′} h = let x = ap (λ (o : Outcome). o .0) h in let z : 5 ≡ n = cc in (sym (ap (λ (o : Outcome). o .1) h), (cc), (λ f. absurd (omega arith)), (λ f. (cc, cc)))
+settle-refused (unsupplied p′) w {n} {p} {k} {w′} h = let x = ap (λ (o : Outcome). o .0) h in let z : 6 ≡ n = cc in (sym (ap (λ (o : Outcome). o .1) h), (cc), (λ f. absurd (omega arith)), (λ f. absurd (omega arith)))
+
+pub settle-fits : (c : Bool) (p m : ℕ) (R : List Rec) (w : List ℕ) → need R ≤ length w → settle (accept c p m R) w ≡ (accepted c p m (length R), flat R ++ drop (need R) w)
+unfolding settle
+settle-fits c p m R w h = rw (le-leb (need R) (length w) h)
+
+pub settle-full : (c : Bool) (p m : ℕ) (R : List Rec) (w : List ℕ) → length w < need R → settle (accept c p m R) w ≡ (refused 7 p (need R), w)
+unfolding settle
+settle-full c p m R w h = rw (lt-leb (need R) (length w) h)
+
+---------------------------------------------------------------- the tests
+
+pub decide-go : (ts : List Test) (r : Reply) (w : List ℕ) → passes ts ≡ true → decide ts r w ≡ settle r w
+unfolding decide passes
+decide-go [] r w h = refl
+decide-go (test true n ∷ ts) r w h = decide-go ts r w h
+decide-go (test false n ∷ ts) r w h = let z : _≡_ {A = ℕ} 0 1 = cc in absurd (omega arith)
+
+pub decide-accepted : (ts : List Test) (r : Reply) (w : List ℕ) {c : Bool} {p m k : ℕ} {w′ : List ℕ} → decide ts r w ≡ (accepted c p m k, w′) → (passes ts ≡ true) × Settled r w c p m k w′
+unfolding decide passes
+decide-accepted [] r w h = (refl, settle-accepted r w h)
+decide-accepted (test true n ∷ ts) r w h = decide-accepted ts r w h
+decide-accepted (test false n ∷ ts) r w h = answers-differ (sym h)
+
+-- refused by a test, or by the reading
+pub record Refused (ts : List Test) (r : Reply) (w : List ℕ) (n p k : ℕ) (w′ : List ℕ) : Type 0 where
+  pub left : w′ ≡ w
+  pub reached : (p ≡ 0) ⊎ (replyReach r ≡ p)
+  pub late : early ts ≡ true → 3 < n → (passes ts ≡ true) × (settle r w ≡ (refused n p k, w′))
+
+pub decide-refused : (ts : List Test) (r : Reply) (w : List ℕ) {n p k : ℕ} {w′ : List ℕ} → decide ts r w ≡ (refused n p k, w′) → Refused ts r w n p k w′
+unfolding decide passes early
+decide-refused [] r w h = record { left = settle-refused r w h .0; reached = inr (settle-refused r w h .1); late = λ _ _. (refl, h) }
+decide-refused (test true n ∷ ts) r w h =
+    let x = decide-refused ts r w h in
+    record { left = x .left; reached = x .reached; late = λ e l. x .late (both (leb n 3) (early ts) e .1) l }
+decide-refused (test false n′ ∷ ts) r w {n} {p} {k} {w′} h =
+    let x = ap (λ (o : Outcome). o .0) h in
+    let z : n′ ≡ n = cc in
+    record { left = sym (ap (λ (o : Outcome). o .1) h); reached = inl (cc); late = λ e l. absurd (omega (arith, leb-true n′ 3 (both (leb n′ 3) (early ts) e .0))) }

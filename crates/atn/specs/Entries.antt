@@ -1,0 +1,124 @@
+-- The five entries: the complete answer, and what the lent words hold afterwards, as functions of frame, tables, direction and words.
+use mathlib.Core.Bool.{Bool, true, false, cond, _&&_}
+use mathlib.Core.List.{List, [], _∷_, _++_}
+use Prim.Native.Nat.{ℕ, zero, suc, _+_, _*_, max}
+use lib.ListN.{length, drop}
+use lib.Dec.{leb, eqb}
+use Rattle.x691.specs.Bits.{bitOf}
+use Rattle.atn.specs.Format.{Fmt, Why, out, bad, lack, quit}
+use Rattle.atn.specs.Reading.{Rec, rec, Ans, ok, past, stop, or, mark, read}
+use Rattle.atn.specs.Messages.{aircraftPdus, groundPdus, cmGround, cmAircraft, acse}
+
+---------------------------------------------------------------- what a reading says
+
+-- accepted: whether cut, reach, marks, records; or refused: 4 ran out, 5 badly formed, 6 unsupplied, with the bits taken
+pub data Reply : Type 0 where
+  accept : Bool → ℕ → ℕ → List Rec → Reply
+  ranOut badly unsupplied : ℕ → Reply
+
+unfoldable pub stopped : Why → ℕ → List Rec → ℕ → Reply
+stopped out p R m = ranOut p
+stopped bad p R m = badly p
+stopped lack p R m = unsupplied p
+stopped (quit o j k) p R m = accept o p (or (mark k) m) R
+
+unfoldable pub reply : Ans → Reply
+reply (ok p R m) = accept false p m R
+reply (past p R m) = accept true p m R
+reply (stop w p R m) = stopped w p R m
+
+-- a frame by a format
+unfoldable pub readFrame : Fmt → List ℕ → Reply
+readFrame f s = reply (read f (0, 0) (bitOf s) (length s * 8) 0)
+
+-- `parse_apdu`: the downlink reading, then the uplink one; after a downlink 4 or 5 the reach is the larger, the marks the uplink's alone
+unfoldable pub afterOut : ℕ → Reply → Reply
+afterOut p (accept c q m R) = accept true (max p q) m R
+afterOut p (ranOut q) = ranOut (max p q)
+afterOut p (badly q) = ranOut (max p q)
+afterOut p (unsupplied q) = ranOut (max p q)
+
+unfoldable pub afterBad : ℕ → Reply → Reply
+afterBad p (accept c q m R) = accept c (max p q) m R
+afterBad p (ranOut q) = ranOut (max p q)
+afterBad p (badly q) = badly (max p q)
+afterBad p (unsupplied q) = unsupplied (max p q)
+
+unfoldable pub orElse : Reply → Reply → Reply
+orElse (accept c p m R) u = accept c p m R
+orElse (unsupplied p) u = unsupplied p
+orElse (badly p) u = afterBad p u
+orElse (ranOut p) u = afterOut p u
+
+---------------------------------------------------------------- what an entry returns
+
+-- accepted: whether cut, reach, marks, number of records; refused: document 01's number, reach, words needed
+pub data Answer : Type 0 where
+  accepted : Bool → ℕ → ℕ → ℕ → Answer
+  refused : ℕ → ℕ → ℕ → Answer
+
+-- the answer, and the lent words afterwards
+abbrev pub Outcome : Type 0
+Outcome = Answer × List ℕ
+
+unfoldable pub flat : List Rec → List ℕ
+flat [] = []
+flat (rec t m v s ∷ R) = t ∷ m ∷ v ∷ s ∷ flat R
+
+-- the words needed
+unfoldable pub need : List Rec → ℕ
+need R = length R * 4
+
+-- 7 where the records do not fit; records fill the front, words after them stay; a refusal leaves all
+unfoldable pub settle : Reply → List ℕ → Outcome
+settle (accept c p m R) w = cond (leb (need R) (length w)) (accepted c p m (length R), flat R ++ drop (need R) w) (refused 7 p (need R), w)
+settle (ranOut p) w = (refused 4 p 0, w)
+settle (badly p) w = (refused 5 p 0, w)
+settle (unsupplied p) w = (refused 6 p 0, w)
+
+---------------------------------------------------------------- what is tested before anything is read
+
+unfoldable pub frame-fits : List ℕ → Bool
+frame-fits s = leb (length s) 8192
+
+unfoldable pub table-fits : List ℕ → Bool
+table-fits t = leb 1 (length t) && leb (length t) 256
+
+unfoldable pub direction-fits : ℕ → Bool
+direction-fits d = leb d 1
+
+-- a test, and the refusal where it fails
+pub data Test : Type 0 where
+  test : Bool → ℕ → Test
+
+-- the tests are made in their order; the reading decides only where all hold
+unfoldable pub decide : List Test → Reply → List ℕ → Outcome
+decide [] r w = settle r w
+decide (test true n ∷ ts) r w = decide ts r w
+decide (test false n ∷ ts) r w = (refused n 0 0, w)
+
+-- every entry first asks for the frame's length, then for what else it is given
+unfoldable pub enter : List Test → (List ℕ → Reply) → List ℕ → List ℕ → Outcome
+enter ts read s w = decide (test (frame-fits s) 1 ∷ ts) (read s) w
+
+---------------------------------------------------------------- the entries: frame, direction, down table, up table, words
+
+-- direction 0 is the downlink, 1 the uplink
+unfoldable pub pdus : ℕ → List ℕ → List ℕ → Fmt
+pdus zero down up = aircraftPdus down
+pdus (suc d) down up = groundPdus down up
+
+unfoldable pub parse-pdus : List ℕ → ℕ → List ℕ → List ℕ → List ℕ → Outcome
+parse-pdus s d down up w = enter (test (table-fits down && table-fits up) 2 ∷ test (direction-fits d) 3 ∷ []) (λ f. readFrame (pdus d down up) f) s w
+
+unfoldable pub parse-apdu : List ℕ → List ℕ → List ℕ → List ℕ → Outcome
+parse-apdu s down up w = enter (test (table-fits down && table-fits up) 2 ∷ []) (λ f. orElse (readFrame (aircraftPdus down) f) (readFrame (groundPdus down up) f)) s w
+
+unfoldable pub parse-cm-ground : List ℕ → List ℕ → Outcome
+parse-cm-ground s w = enter [] (λ f. readFrame cmGround f) s w
+
+unfoldable pub parse-cm-logon : List ℕ → List ℕ → Outcome
+parse-cm-logon s w = enter [] (λ f. readFrame cmAircraft f) s w
+
+unfoldable pub parse-acse-apdu : List ℕ → List ℕ → Outcome
+parse-acse-apdu s w = enter [] (λ f. readFrame acse f) s w

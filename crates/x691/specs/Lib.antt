@@ -1,0 +1,4 @@
+pub mod Bits
+pub mod Types
+pub mod Encoding
+pub mod Range
