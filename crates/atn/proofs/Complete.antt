@@ -20,7 +20,8 @@ use Rattle.atn.specs.Format.{Fmt, num, listed, name, text, span, anySpan
 use Rattle.atn.specs.Format.{Flds, end, _⨾_, _⨾?_, orNote, unread, Alts, none-left, _∥_, typeOf, membersOf, alternativesOf}
 use Rattle.atn.specs.Reading.{Rec, rec, Ctx, Ans, ok, past, stop, glue, then, times, fork, guard, or, unless, over, word, pack, coded, spanned, fetch, pull, letters, units, flags, unreadMark, unreadMarks, close, softly, laxly, read, readFields, readChoice}
 use Rattle.atn.specs.Told.{tellAny, tellAll, tell, tellFields, tellPick}
-use Rattle.atn.proofs.Steps.{width-holds, width-pow, then-nil, then-go, over-in, fetch-go, pull-go, pull-spelt, pull-bit, length-size, sized-go, length-units, letters-go, units-back, length-go, times-go, any-go}
+use Rattle.x691.proofs.Widths.{width-holds, width-pow, index-highest}
+use Rattle.atn.proofs.Steps.{then-nil, then-go, over-in, fetch-go, pull-go, pull-spelt, pull-bit, length-size, sized-go, length-units, letters-go, units-back, length-go, times-go, any-go}
 
 pub length-preamble : (fs : Flds) (vs : Values (membersOf fs)) → length (preamble (membersOf fs) vs) ≡ flags fs
 unfolding preamble flags
@@ -50,16 +51,6 @@ unread-nil b (orNote t v y f fs) vs q s = unread-nil b fs (vs .1) (suc q) (s .1)
 unread-nil b (unread t fs) vs q s =
     let z : b q ≡ 0 = s .0 ∙ no-flag (vs .0) in
     rw z (unread-nil b fs (vs .1) (suc q) (s .1))
-
-index-count : (ts : Alternatives) (c : Pick ts) → index ts c < count ts
-unfolding index count
-index-count NONE c = absurd c
-index-count (t ∣ ts) (inl v) = omega arith
-index-count (t ∣ ts) (inr c) = omega (arith, index-count ts c)
-
-pub index-highest : (ts : Alternatives) (c : Pick ts) → index ts c ≤ highest ts
-unfolding highest
-index-highest ts c = omega (arith, index-count ts c)
 
 module _ (b : ℕ → ℕ) where
   abbrev pub Completes : Fmt → Type 0

@@ -20,7 +20,8 @@ use Rattle.atn.specs.Format.{Fmt, num, listed, name, text, span, anySpan
 use Rattle.atn.specs.Format.{Flds, end, _⨾_, _⨾?_, orNote, unread, Alts, none-left, _∥_, typeOf, membersOf, alternativesOf}
 use Rattle.atn.specs.Reading.{Rec, rec, Ctx, Ans, ok, past, stop, then, times, unless, over, spanned, letters, units, flags, unreadMarks, read, readFields, readChoice}
 use Rattle.atn.specs.Told.{tellAny, tellAll, tell, tellFields, tellPick}
-use Rattle.atn.proofs.Steps.{width-pow, length-size, length-units}
+use Rattle.x691.proofs.Widths.{width-pow}
+use Rattle.atn.proofs.Steps.{length-size, length-units}
 use Rattle.atn.proofs.Complete.{length-preamble}
 use Rattle.atn.proofs.Inverse.{both, never, never-late, never-marked, never-after, unless-inv, over-inv, Two, then-inv, then-ok, fork-inv, guard-inv, close-inv, soft-inv, lax-inv, fetch-inv, pull-inv, sized-inv, letters-inv, is-one, units-spelt, length-inv}
 

@@ -8,54 +8,16 @@ use native.Mathlib.Nat.{add-assoc, add-suc, suc-add, add-zero, suc-mul, add-comm
 use native.Mathlib.Numerals.{add-one, add-two}
 use native.Mathlib.Omega.{arith}
 use lib.ListN.{length, length-append}
-use lib.Pow.{pow-pos}
 use lib.Dec.{leb, ltb, eqb}
 use borrow.Author.Tests.{ltb-true, ltb-false, eqb-true, eqb-false, le-leb, lt-leb, lt-ltb}
 use Rattle.x691.specs.Bits.{uint, bitsOf, Spells}
-use Rattle.x691.specs.Encoding.{widthIn, width, lengthBits, sizeBits, unitBits, joined, ifAny, flag}
+use Rattle.x691.specs.Encoding.{width, lengthBits, sizeBits, unitBits, joined, ifAny, flag}
 use Rattle.x691.specs.Range.{All, IfAny}
 use Rattle.x691.proofs.BitLaws.{uint-back, uint-one, spells-fst, spells-snd, length-bitsOf}
+use Rattle.x691.proofs.Widths.{width-holds, unit-fits}
 use Rattle.atn.specs.Format.{out}
 use Rattle.atn.specs.Reading.{Rec, Ans, ok, past, stop, glue, then, times, fork, or, unless, over, fetch, pull, sized, letters, units, short, long, fragment, lengths, lengthThen}
 use Rattle.atn.specs.Told.{tellAny, tellAll}
-
----------------------------------------------------------------- widths
-
-width-step : (d w : ℕ) (t : Bool) → eqb d 0 ≡ t → ((d ≡ 0 → ⊥) → d / 2 < 2 ^ w) → d < 2 ^ (elim t [ true ↦ 0 | false ↦ suc w ])
-width-step d w true q h = omega (arith, eqb-true d 0 q)
-width-step d w false q h = omega (arith, h (eqb-false d 0 q))
-
-width-in : (k d : ℕ) → d ≤ k → d < 2 ^ widthIn k d
-unfolding widthIn
-width-in zero d h = omega arith
-width-in (suc k) d h = width-step d (widthIn k (d / 2)) (eqb d 0) refl (λ z. width-in k (d / 2) (omega arith))
-
--- a number fits its width
-pub width-holds : (d : ℕ) → d < 2 ^ width d
-unfolding width
-width-holds d = width-in d d (omega arith)
-
--- and no width is larger than it need be
-width-half : (k d w : ℕ) (t : Bool) → eqb d 0 ≡ t → (d ≡ 0 → ⊥) → widthIn k (d / 2) ≡ w → (elim t [ true ↦ 0 | false ↦ suc (widthIn k (d / 2)) ]) ≡ suc w
-width-half k d w true q z h = absurd (z (eqb-true d 0 q))
-width-half k d w false q z h = ap suc h
-
-width-pow-in : (w k : ℕ) → 2 ^ w - 1 ≤ k → widthIn k (2 ^ w - 1) ≡ w
-unfolding widthIn
-width-pow-in zero zero h = refl
-width-pow-in zero (suc k) h = refl
-width-pow-in (suc w) zero h = absurd (omega (arith, pow-pos w))
-width-pow-in (suc w) (suc k) h =
-    let d : ℕ = 2 ^ suc w - 1 in
-    let z : d / 2 ≡ 2 ^ w - 1 = omega (arith, pow-pos w) in
-    width-half k d w (eqb d 0) refl (λ y. omega (arith, pow-pos w)) (rw z (width-pow-in w k (omega (arith, pow-pos w))))
-
-pub width-pow : (w : ℕ) → width (2 ^ w - 1) ≡ w
-unfolding width
-width-pow w = width-pow-in w (2 ^ w - 1) (omega arith)
-
-pub unit-fits : (n c : ℕ) → c < n → c < 2 ^ width (n - 1)
-unit-fits n c h = omega (arith, width-holds (n - 1))
 
 ---------------------------------------------------------------- answers
 
