@@ -10,3 +10,4 @@ pub mod Readings
 pub mod Outcomes
 pub mod Demands
 pub mod Five
+pub mod Marks

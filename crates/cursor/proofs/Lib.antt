@@ -1,0 +1,4 @@
+pub mod Rules
+pub mod Laws
+pub mod Table
+pub mod NumberLaws

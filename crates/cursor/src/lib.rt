@@ -1,0 +1,4 @@
+// The cursor: where a reading stands in its window, how it goes on, and why it stopped.
+pub mod place; // place.rt: the cursor, and the bits behind it
+pub mod ranges; // ranges.rt: the table of ranges
+pub mod numbers; // numbers.rt: numbers of a range, and names

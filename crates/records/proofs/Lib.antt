@@ -1,0 +1,4 @@
+pub mod Sizes
+pub mod Putting
+pub mod Telling
+pub mod Passes

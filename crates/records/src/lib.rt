@@ -1,0 +1,25 @@
+// Records in lent words, one after another from the front. What is told goes through here, so no caller
+// knows how many words a record has.
+ghost use Prim.Native.Nat.{_<_, _^_};
+ghost use mathlib.Core.List.{[], _∷_};
+ghost use Rattle.atn.specs.Reading.{rec};
+ghost use Rattle.records.specs.Told.{Told};
+
+pub mod front; // front.rt: a record at the front of what is lent
+pub mod space; // space.rt: how many words records take
+
+// The words of a record.
+const WORDS: usize = 4;
+
+// One record, with n before it, and how many there are then. Without room for it the words stay and the
+// record still counts: so a reading that is lent no words tells how many it would write.
+pub fn emit(words: &mut [u64], n: usize, tag: u64, element: u64, value: u64, second: u64) -> usize
+    requires { ⌜ n < 2 ^ 32 ⌝ }
+    ensures { λ m. ⌜ Told 1 (now (words .entry)) (now (words .exit)) n m (rec tag element value second ∷ []) ⌝ }
+{
+    let at = space::words_for(n);
+    if at <= words.len() {
+        front::put_record(&mut words[at..], tag, element, value, second);
+    }
+    n + 1
+}
