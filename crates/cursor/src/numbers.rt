@@ -2,11 +2,11 @@
 ghost use mathlib.Core.Path.{_≡_};
 ghost use Prim.Native.Nat.{_<_};
 ghost use Rattle.cursor.specs.Numbers.{Ranged, Named, lowest};
+use super::place::Cursor;
+use super::place::Got;
 use super::place::bits;
 use super::place::mark;
 use super::place::stop;
-use super::place::Cursor;
-use super::place::Got;
 use super::ranges::range_at;
 
 // A number of the row's range. Above the range it is told all the same, with mark 1.

@@ -2,8 +2,8 @@
 ghost use mathlib.Core.Path.{_≡_};
 ghost use Prim.Native.Nat.{_+_, _≤_};
 ghost use Rattle.cursor.specs.Place.{Pulls, stopped, marked};
-use per::room::holds;
 use per::number::uint;
+use per::room::holds;
 
 pub struct Cursor {
     pub at: usize,

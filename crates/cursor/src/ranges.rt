@@ -10,61 +10,117 @@ pub struct Range {
 }
 
 pub const SIDE: usize = 0;
+
 pub const YEAR: usize = 1;
+
 pub const MONTH: usize = 2;
+
 pub const DAY: usize = 3;
+
 pub const HOURS: usize = 4;
+
 pub const MINUTES: usize = 5;
+
 pub const MSG_ID: usize = 6;
+
 pub const LATITUDE_THOUSANDTHS: usize = 7;
+
 pub const LATITUDE_DEGREES: usize = 8;
+
 pub const HUNDREDTHS: usize = 9;
+
 pub const LONGITUDE_THOUSANDTHS: usize = 10;
+
 pub const LONGITUDE_DEGREES: usize = 11;
+
 pub const DEGREES: usize = 12;
+
 pub const SPEED_0: usize = 13;
+
 pub const SPEED_1: usize = 14;
+
 pub const SPEED_2: usize = 15;
+
 pub const SPEED_3: usize = 16;
+
 pub const SPEED_4: usize = 17;
+
 pub const SPEED_5: usize = 18;
+
 pub const SPEED_6: usize = 19;
+
 pub const LEVEL_0: usize = 20;
+
 pub const LEVEL_1: usize = 21;
+
 pub const LEVEL_2: usize = 22;
+
 pub const LEVEL_3: usize = 23;
+
 pub const FREQUENCY_0: usize = 24;
+
 pub const FREQUENCY_1: usize = 25;
+
 pub const FREQUENCY_2: usize = 26;
+
 pub const CODE_DIGIT: usize = 27;
+
 pub const SPEED_TYPE: usize = 28;
+
 pub const TRAFFIC_TYPE: usize = 29;
+
 pub const CLEARANCE_TYPE: usize = 30;
+
 pub const ERROR_INFORMATION: usize = 31;
+
 pub const FACILITY_FUNCTION: usize = 32;
+
 pub const PROCEDURE: usize = 33;
+
 pub const RUNWAY: usize = 34;
+
 pub const RUNWAY_SIDE: usize = 35;
+
 pub const USER_ABORT_REASON: usize = 36;
+
 pub const PROVIDER_ABORT_REASON: usize = 37;
+
 pub const FORWARD_RESPONSE: usize = 38;
+
 pub const CM_ABORT_REASON: usize = 39;
+
 pub const CM_FORWARD_RESPONSE: usize = 40;
+
 pub const ABORT_DIAGNOSTIC: usize = 41;
+
 pub const AE_QUALIFIER: usize = 42;
+
 pub const AP_VERSION: usize = 43;
+
 pub const FIX_SIZE: usize = 44;
+
 pub const NAVAID_SIZE: usize = 45;
+
 pub const AIRPORT_SIZE: usize = 46;
+
 pub const PROCEDURE_SIZE: usize = 47;
+
 pub const TRANSITION_SIZE: usize = 48;
+
 pub const FLIGHT_SIZE: usize = 49;
+
 pub const ROUTE_SIZE: usize = 50;
+
 pub const CHANNEL_SIZE: usize = 51;
+
 pub const SELECTOR_SIZE: usize = 52;
+
 pub const ELEMENTS: usize = 53;
+
 pub const CLEARANCES: usize = 54;
+
 pub const LEGS: usize = 55;
+
 pub const APPLICATIONS: usize = 56;
 
 const RANGES: [Range; 57] = [
