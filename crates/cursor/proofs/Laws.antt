@@ -2,12 +2,14 @@
 use mathlib.Core.Path.{_≡_, refl, sym, ap, _∙_}
 use mathlib.Core.Bool.{cond}
 use mathlib.Core.List.{List, [], _∷_, _++_, append-nil}
-use Prim.Native.Nat.{ℕ, zero, suc, _+_, _-_, _*_, _≤_, _<_}
+use Prim.Native.Nat.{ℕ, zero, suc, _+_, _-_, _*_, _/_, _%_, _^_, _≤_, _<_}
 use native.Mathlib.Omega.{arith}
 use lib.ListN.{length}
 use lib.Dec.{eqb}
 use borrow.Author.Tests.{eq-eqb, ne-eqb}
 use Rattle.x691.specs.Bits.{bitOf, uint}
+use Rattle.x691.proofs.BitLaws.{uint-one}
+use Rattle.per.proofs.Laws.{uint-within}
 use Rattle.atn.specs.Format.{Why, out, bad, lack, quit}
 use Rattle.atn.specs.Reading.{Rec, rec, Ctx, Ans, ok, past, stop, glue, then, fork, or, pull}
 use Rattle.atn.proofs.Marks.{or-assoc, or-nil}
@@ -30,6 +32,22 @@ reads-same {s} {c} {d} {R} k l q r = record { led = λ i. go (r .led i) }
     go (stayed h e) = stayed h e
     go (went p m z a h e) = went p m z (sym q ∙ a) h e
     go (failed w p m S n z a h e) = failed w p m S n z (sym q ∙ a) h e
+
+-- behind a failure the cursor stays
+pub led-stays : (k : ℕ → ℕ → Ans) (c d : Cursor) {R : List Rec} → (c .why ≡ 0 → ⊥) → Led k c d R → d ≡ c
+led-stays k c d h (stayed g q) = q
+led-stays k c d h (went p m z a l q) = absurd (h z)
+led-stays k c d h (failed w p m S n z a l q) = absurd (h z)
+
+-- a reading that begins at another place of the window
+pub led-from : {c e d : Cursor} {p : ℕ} {R : List Rec} (k l : ℕ → ℕ → Ans) → c .why ≡ 0 → e ≡ put c p 0 (c .marks) → k (c .end) p ≡ l (c .end) (c .at) → Led k e d R → Led l c d R
+led-from k l z q y (stayed h x) = absurd (h (rw q refl))
+led-from {c} {e} {d} {p} {R} k l z q y (went p′ m w a b x) =
+    let a′ : k (c .end) p ≡ ok p′ R m = rw q at a in
+    went p′ m z (sym y ∙ a′) (rw q at b) (x ∙ rw q)
+led-from {c} {e} {d} {p} k l z q y (failed v p′ m S n w a b x) =
+    let a′ : k (c .end) p ≡ stop v p′ S m = rw q at a in
+    failed v p′ m S n z (sym y ∙ a′) (rw q at b) (x ∙ rw q)
 
 ---------------------------------------------------------------- one after another
 
@@ -84,19 +102,10 @@ pulled-inside s c n g i (got z l v q) = rw q (l, i .1)
 
 module _ {s : List ℕ} {c d : Cursor} {R : List Rec} (n : ℕ) (g : Got) (k : ℕ → ℕ → ℕ → Ans) where
   pulled-then : Inside s c → Pulled s c n g → Led (λ u p. k (g .v) u p) (g .c) d R → Led (Behind s n k) c d R
-  pulled-then i (stuck h q) (stayed h′ y) = stayed h (y ∙ q)
-  pulled-then i (stuck h q) (went p m z a b y) = absurd (h (rw q at z))
-  pulled-then i (stuck h q) (failed w p m T t z a b y) = absurd (h (rw q at z))
-  pulled-then i (short z l q) (stayed h y) = failed out (c .at) 0 [] (λ x. omega arith) z (pull-no (bitOf s) (c .end) (c .at) n _ l) (i .0) (y ∙ q ∙ rw (or-nil (c .marks)))
-  pulled-then i (short z l q) (went p m z′ a b y) = absurd (let x : 4 ≡ 0 = rw q at z′ in omega arith)
-  pulled-then i (short z l q) (failed w p m T t z′ a b y) = absurd (let x : 4 ≡ 0 = rw q at z′ in omega arith)
-  pulled-then i (got z l v q) (stayed h y) = absurd (h (rw q refl))
-  pulled-then i (got z l v q) (went p m z′ a b y) =
-      let x : k (g .v) (c .end) (c .at + n) ≡ ok p R m = rw q at a in
-      went p m z (pull-go (bitOf s) (c .end) (c .at) n _ l ∙ rw (← v) x) (rw q at b) (y ∙ rw q)
-  pulled-then i (got z l v q) (failed w p m T t z′ a b y) =
-      let x : k (g .v) (c .end) (c .at + n) ≡ stop w p T m = rw q at a in
-      failed w p m T t z (pull-go (bitOf s) (c .end) (c .at) n _ l ∙ rw (← v) x) (rw q at b) (y ∙ rw q)
+  pulled-then i (stuck h q) r = stayed h (led-stays _ (g .c) d (rw q h) r ∙ q)
+  pulled-then i (short z l q) r =
+      failed out (c .at) 0 [] (λ x. omega arith) z (pull-no (bitOf s) (c .end) (c .at) n _ l) (i .0) (led-stays _ (g .c) d (rw q (λ x. omega arith)) r ∙ q ∙ rw (or-nil (c .marks)))
+  pulled-then i (got z l v q) r = led-from (λ u p. k (g .v) u p) (Behind s n k) z q (sym (pull-go (bitOf s) (c .end) (c .at) n _ l ∙ rw (← v))) r
 
   -- n bits, and what follows them
   pub pull-then : Pulls s c n g → Reads (λ u p. k (g .v) u p) s (g .c) d R → Reads (Behind s n k) s c d R
@@ -111,3 +120,8 @@ marked-nil c = go (c .why) refl
     go : (w : ℕ) → c .why ≡ w → c ≡ cond (eqb (c .why) 0) (put c (c .at) 0 (or (c .marks) 0)) c
     go zero z = rw (eq-eqb (c .why) 0 z, or-nil (c .marks)) (ap (λ (w : ℕ). put c (c .at) w (c .marks)) z)
     go (suc w) z = rw (ne-eqb (c .why) 0 (λ y. omega arith))
+
+---------------------------------------------------------------- one bit of a number
+
+pub bit-of : (s : List ℕ) (at j r n : ℕ) → j + 1 + r ≡ n → uint (bitOf s) at n / 2 ^ r % 2 ≡ bitOf s (at + j)
+bit-of s at j r n h = rw (← h) (sym (uint-within s at j 1 r) ∙ uint-one (bitOf s) (at + j))

@@ -2,3 +2,5 @@ pub mod Rules
 pub mod Laws
 pub mod Table
 pub mod NumberLaws
+pub mod FormatLaws
+pub mod ChoiceLaws

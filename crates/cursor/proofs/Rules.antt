@@ -10,7 +10,7 @@ use borrow.Author.Tests.{leb-true, leb-false, eq-eqb, ne-eqb}
 use Rattle.x691.specs.Bits.{bitOf, uint}
 use Rattle.cursor.specs.declared.place.Cursor.{Cursor}
 use Rattle.cursor.specs.declared.place.Got.{Got}
-use Rattle.cursor.specs.Place.{put, Inside, Pulls, stuck, short, got}
+use Rattle.cursor.specs.Place.{put, Inside, Pulled, Pulls, stuck, short, got, Opened, shutAlready, ranShort, opened, Opens}
 
 module _ (s : List ℕ) (c : Cursor) (n : ℕ) where
   abbrev none : Got
@@ -34,3 +34,29 @@ module _ (s : List ℕ) (c : Cursor) (n : ℕ) where
 
   pub pulls-short : c .why ≡ 0 → c .at ≤ c .end → c .end - c .at < n → Pulls s c n none
   pulls-short w a l = record { gave = λ i. short w (omega arith) refl }
+
+-- presence bits, from the bits that were asked for
+module _ (s : List ℕ) (c : Cursor) (n : ℕ) {g : Got} (p : Pulls s c n g) where
+  pub opens-stuck : (c .why ≡ 0 → ⊥) → Opens s c n g
+  opens-stuck h = record { gave = λ i. go (p .gave i) }
+    where
+      go : Pulled s c n g → Opened s c n g
+      go (stuck y q) = shutAlready y q
+      go (short z l q) = absurd (h z)
+      go (got z l v q) = absurd (h z)
+
+  pub opens-got : c .why ≡ 0 → g .c .why ≡ 0 → Opens s c n g
+  opens-got h k = record { gave = λ i. go (p .gave i) }
+    where
+      go : Pulled s c n g → Opened s c n g
+      go (stuck y q) = absurd (y h)
+      go (short z l q) = absurd (let y : 4 ≡ 0 = rw q at k in omega arith)
+      go (got z l v q) = opened z l v q
+
+  pub opens-short : c .why ≡ 0 → (g .c .why ≡ 0 → ⊥) → Opens s c n (record { v = 0; c = put c (c .end) 4 (c .marks) })
+  opens-short h k = record { gave = λ i. go (p .gave i) }
+    where
+      go : Pulled s c n g → Opened s c n (record { v = 0; c = put c (c .end) 4 (c .marks) })
+      go (stuck y q) = absurd (y h)
+      go (short z l q) = ranShort z l refl
+      go (got z l v q) = absurd (k (rw q refl))

@@ -1,3 +1,4 @@
 pub mod Place
 pub mod Ranges
 pub mod Numbers
+pub mod Formats

@@ -41,6 +41,15 @@ pub data Pulled (s : List ℕ) (c : Cursor) (n : ℕ) (g : Got) : Type 0 where
 pub record Pulls (s : List ℕ) (c : Cursor) (n : ℕ) (g : Got) : Type 0 where
   pub gave : Inside s c → Pulled s c n g
 
+-- What n presence bits gave: as above, but they are taken one after another, so that what is there of them counts.
+pub data Opened (s : List ℕ) (c : Cursor) (n : ℕ) (g : Got) : Type 0 where
+  shutAlready : (c .why ≡ 0 → ⊥) → g .c ≡ c → Opened s c n g
+  ranShort : c .why ≡ 0 → c .end < c .at + n → g .c ≡ put c (c .end) 4 (c .marks) → Opened s c n g
+  opened : c .why ≡ 0 → c .at + n ≤ c .end → g .v ≡ uint (bitOf s) (c .at) n → g .c ≡ put c (c .at + n) 0 (c .marks) → Opened s c n g
+
+pub record Opens (s : List ℕ) (c : Cursor) (n : ℕ) (g : Got) : Type 0 where
+  pub gave : Inside s c → Opened s c n g
+
 -- How a reading k, a function of the window's end and the place, led from the cursor c to the cursor d, with the records R:
 -- a cursor that had stopped stays; else the reading's answer is the cursor's.
 pub data Led (k : ℕ → ℕ → Ans) (c d : Cursor) (R : List Rec) : Type 0 where

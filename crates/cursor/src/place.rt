@@ -1,7 +1,7 @@
 // A cursor by value: the place of the next bit, the end of the window, why the reading stopped (0 while it goes on, else document 01's number) and its marks. A failure stays: behind it every read is a no-op.
 ghost use mathlib.Core.Path.{_≡_};
 ghost use Prim.Native.Nat.{_+_, _≤_};
-ghost use Rattle.cursor.specs.Place.{Pulls, stopped, marked};
+ghost use Rattle.cursor.specs.Place.{Pulls, Opens, stopped, marked};
 use per::number::uint;
 use per::room::holds;
 
@@ -48,6 +48,32 @@ pub fn bits(s: &[u8], c: Cursor, n: usize) -> Got
         v: 0,
         c: Cursor {
             at: at,
+            end: end,
+            why: 4,
+            marks: marks,
+        },
+    }
+}
+
+// The next n presence bits as a number. They are taken one after another: where the window is too short for all, what is there of them is taken.
+pub fn open(s: &[u8], c: Cursor, n: usize) -> Got
+    requires { ⌜ n ≤ 64 ⌝ }
+    ensures { λ r. ⌜ Opens (now (s .entry)) c n r ⌝ }
+{
+    let end = c.end;
+    let marks = c.marks;
+    let g = bits(s, c, n);
+    if c.why != 0 {
+        return g;
+    }
+    let d = g.c;
+    if d.why == 0 {
+        return g;
+    }
+    Got {
+        v: 0,
+        c: Cursor {
+            at: end,
             end: end,
             why: 4,
             marks: marks,
