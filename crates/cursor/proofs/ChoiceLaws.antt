@@ -11,14 +11,9 @@ use Rattle.atn.specs.Reading.{Rec, rec, Ctx, Ans, stop, mark, read, readChoice}
 use Rattle.cursor.specs.declared.place.Cursor.{Cursor}
 use Rattle.cursor.specs.declared.place.Got.{Got}
 use Rattle.cursor.specs.Place.{stopped, Pulls, Reads, Takes}
-use Rattle.cursor.specs.Numbers.{lowest, highest, Ranged}
+use Rattle.cursor.specs.Numbers.{lowest, highest, rowsThen, Ranged}
 use Rattle.cursor.proofs.Laws.{reads-same, reads-stop}
 use Rattle.cursor.proofs.FormatLaws.{takes-choice}
-
--- n numbers with one tag, from the row k on, and then others
-abbrev pub rowsThen : ℕ → ℕ → ℕ → Alts → Alts
-rowsThen t k zero fs = fs
-rowsThen t k (suc n) fs = num t (lowest k) (highest k) ∥ rowsThen t (suc k) n fs
 
 -- an index below n is read by its row
 row-read : (t k n i : ℕ) (fs : Alts) (x : Ctx) (b : ℕ → ℕ) (e p : ℕ) → i < n → readChoice (rowsThen t k n fs) i x b e p ≡ read (num t (lowest (k + i)) (highest (k + i))) x b e p

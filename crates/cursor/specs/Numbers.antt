@@ -1,8 +1,8 @@
 -- What a number of a row, or a name of it, is: the format's reading, whatever its tag.
 use mathlib.Core.List.{List, [], _∷_}
-use Prim.Native.Nat.{ℕ}
+use Prim.Native.Nat.{ℕ, zero, suc}
 use lib.ListN.{getD}
-use Rattle.atn.specs.Format.{num, name}
+use Rattle.atn.specs.Format.{num, name, Alts, _∥_}
 use Rattle.atn.specs.Reading.{rec}
 use Rattle.cursor.specs.declared.place.Cursor.{Cursor}
 use Rattle.cursor.specs.declared.place.Got.{Got}
@@ -20,3 +20,8 @@ pub record Ranged (k : ℕ) (s : List ℕ) (c : Cursor) (g : Got) : Type 0 where
 
 pub record Named (k : ℕ) (s : List ℕ) (c : Cursor) (g : Got) : Type 0 where
   pub name : (t : ℕ) → Takes (name t (highest k)) s c (g .c) (λ n. rec t n (g .v) 0 ∷ [])
+
+-- n numbers with one tag, from the row k on, and then others
+abbrev pub rowsThen : ℕ → ℕ → ℕ → Alts → Alts
+rowsThen t k zero fs = fs
+rowsThen t k (suc n) fs = num t (lowest k) (highest k) ∥ rowsThen t (suc k) n fs

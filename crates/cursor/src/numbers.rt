@@ -11,7 +11,7 @@ use super::ranges::range_at;
 
 // A number of the row's range. Above the range it is told all the same, with mark 1.
 pub fn ranged(s: &[u8], c: Cursor, row: usize) -> Got
-    requires { ⌜ row < 57 ⌝ }
+    requires { ⌜ row < 58 ⌝ }
     ensures { λ r. ⌜ Ranged row (now (s .entry)) c r ⌝ }
 {
     let range = range_at(row);
@@ -28,7 +28,7 @@ pub fn ranged(s: &[u8], c: Cursor, row: usize) -> Got
 
 // A name of the row's range, which begins at 0. Above it there is no name: badly formed, with mark 1.
 pub fn named(s: &[u8], c: Cursor, row: usize) -> Got
-    requires { ⌜ (row < 57) × (lowest row ≡ 0) ⌝ }
+    requires { ⌜ (row < 58) × (lowest row ≡ 0) ⌝ }
     ensures { λ r. ⌜ Named row (now (s .entry)) c r ⌝ }
 {
     let range = range_at(row);

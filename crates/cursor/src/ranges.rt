@@ -33,97 +33,99 @@ pub const LONGITUDE_THOUSANDTHS: usize = 10;
 
 pub const LONGITUDE_DEGREES: usize = 11;
 
-pub const DEGREES: usize = 12;
+pub const DEGREES_0: usize = 12;
 
-pub const SPEED_0: usize = 13;
+pub const DEGREES_1: usize = 13;
 
-pub const SPEED_1: usize = 14;
+pub const SPEED_0: usize = 14;
 
-pub const SPEED_2: usize = 15;
+pub const SPEED_1: usize = 15;
 
-pub const SPEED_3: usize = 16;
+pub const SPEED_2: usize = 16;
 
-pub const SPEED_4: usize = 17;
+pub const SPEED_3: usize = 17;
 
-pub const SPEED_5: usize = 18;
+pub const SPEED_4: usize = 18;
 
-pub const SPEED_6: usize = 19;
+pub const SPEED_5: usize = 19;
 
-pub const LEVEL_0: usize = 20;
+pub const SPEED_6: usize = 20;
 
-pub const LEVEL_1: usize = 21;
+pub const LEVEL_0: usize = 21;
 
-pub const LEVEL_2: usize = 22;
+pub const LEVEL_1: usize = 22;
 
-pub const LEVEL_3: usize = 23;
+pub const LEVEL_2: usize = 23;
 
-pub const FREQUENCY_0: usize = 24;
+pub const LEVEL_3: usize = 24;
 
-pub const FREQUENCY_1: usize = 25;
+pub const FREQUENCY_0: usize = 25;
 
-pub const FREQUENCY_2: usize = 26;
+pub const FREQUENCY_1: usize = 26;
 
-pub const CODE_DIGIT: usize = 27;
+pub const FREQUENCY_2: usize = 27;
 
-pub const SPEED_TYPE: usize = 28;
+pub const CODE_DIGIT: usize = 28;
 
-pub const TRAFFIC_TYPE: usize = 29;
+pub const SPEED_TYPE: usize = 29;
 
-pub const CLEARANCE_TYPE: usize = 30;
+pub const TRAFFIC_TYPE: usize = 30;
 
-pub const ERROR_INFORMATION: usize = 31;
+pub const CLEARANCE_TYPE: usize = 31;
 
-pub const FACILITY_FUNCTION: usize = 32;
+pub const ERROR_INFORMATION: usize = 32;
 
-pub const PROCEDURE: usize = 33;
+pub const FACILITY_FUNCTION: usize = 33;
 
-pub const RUNWAY: usize = 34;
+pub const PROCEDURE: usize = 34;
 
-pub const RUNWAY_SIDE: usize = 35;
+pub const RUNWAY: usize = 35;
 
-pub const USER_ABORT_REASON: usize = 36;
+pub const RUNWAY_SIDE: usize = 36;
 
-pub const PROVIDER_ABORT_REASON: usize = 37;
+pub const USER_ABORT_REASON: usize = 37;
 
-pub const FORWARD_RESPONSE: usize = 38;
+pub const PROVIDER_ABORT_REASON: usize = 38;
 
-pub const CM_ABORT_REASON: usize = 39;
+pub const FORWARD_RESPONSE: usize = 39;
 
-pub const CM_FORWARD_RESPONSE: usize = 40;
+pub const CM_ABORT_REASON: usize = 40;
 
-pub const ABORT_DIAGNOSTIC: usize = 41;
+pub const CM_FORWARD_RESPONSE: usize = 41;
 
-pub const AE_QUALIFIER: usize = 42;
+pub const ABORT_DIAGNOSTIC: usize = 42;
 
-pub const AP_VERSION: usize = 43;
+pub const AE_QUALIFIER: usize = 43;
 
-pub const FIX_SIZE: usize = 44;
+pub const AP_VERSION: usize = 44;
 
-pub const NAVAID_SIZE: usize = 45;
+pub const FIX_SIZE: usize = 45;
 
-pub const AIRPORT_SIZE: usize = 46;
+pub const NAVAID_SIZE: usize = 46;
 
-pub const PROCEDURE_SIZE: usize = 47;
+pub const AIRPORT_SIZE: usize = 47;
 
-pub const TRANSITION_SIZE: usize = 48;
+pub const PROCEDURE_SIZE: usize = 48;
 
-pub const FLIGHT_SIZE: usize = 49;
+pub const TRANSITION_SIZE: usize = 49;
 
-pub const ROUTE_SIZE: usize = 50;
+pub const FLIGHT_SIZE: usize = 50;
 
-pub const CHANNEL_SIZE: usize = 51;
+pub const ROUTE_SIZE: usize = 51;
 
-pub const SELECTOR_SIZE: usize = 52;
+pub const CHANNEL_SIZE: usize = 52;
 
-pub const ELEMENTS: usize = 53;
+pub const SELECTOR_SIZE: usize = 53;
 
-pub const CLEARANCES: usize = 54;
+pub const ELEMENTS: usize = 54;
 
-pub const LEGS: usize = 55;
+pub const CLEARANCES: usize = 55;
 
-pub const APPLICATIONS: usize = 56;
+pub const LEGS: usize = 56;
 
-const RANGES: [Range; 57] = [
+pub const APPLICATIONS: usize = 57;
+
+const RANGES: [Range; 58] = [
     Range {
         lo: 0,
         hi: 1,
@@ -183,6 +185,11 @@ const RANGES: [Range; 57] = [
         lo: 0,
         hi: 179,
         width: 8,
+    },
+    Range {
+        lo: 1,
+        hi: 360,
+        width: 9,
     },
     Range {
         lo: 1,
@@ -413,7 +420,7 @@ const RANGES: [Range; 57] = [
 
 // The range of a row.
 pub fn range_at(row: usize) -> Range
-    requires { ⌜ row < 57 ⌝ }
+    requires { ⌜ row < 58 ⌝ }
     ensures { λ r. ⌜ Row row r ⌝ }
 {
     RANGES[row]

@@ -1,3 +1,4 @@
-// The small readers: arguments that are numbers and names. Each returns its value and the cursor; records come from values.
-pub mod runway; // runway.rt
-pub mod speed; // speed.rt: speed, speed type and its triple
+// The small readers: arguments that are numbers and names. Each returns its value and the cursor behind it; a value's records are told from the value.
+pub mod names; // names.rt: enumerations with an extension marker, and reasons
+pub mod numbers; // numbers.rt: a code, a runway
+pub mod quantities; // quantities.rt: a kind and a number of that kind

@@ -4,8 +4,8 @@ use Rattle.cursor.specs.Ranges.{ends}
 use Rattle.cursor.specs.Numbers.{lowest, highest}
 use Rattle.atn.specs.Reading.{flags}
 use Rattle.cursor.proofs.FormatLaws.{allRead, takes-plain, fields-must, fields-last}
-use Rattle.small.proofs.runway.read_runway.Statement.{statement}
-use Rattle.small.proofs.runway.read_runway.Tie as tie
+use Rattle.small.proofs.numbers.read_runway.Statement.{statement}
+use Rattle.small.proofs.numbers.read_runway.Tie as tie
 
 returns : tie.Need-returns
 unfolding lowest highest ends flags allRead
