@@ -11,3 +11,4 @@ pub mod Outcomes
 pub mod Demands
 pub mod Five
 pub mod Marks
+pub mod Shift
