@@ -23,7 +23,7 @@ use Rattle.atn.proofs.Complete.{complete}
 use Rattle.atn.proofs.Sound.{Found, FoundF, sound}
 use Rattle.atn.proofs.SameBits.{Agree, agree-le}
 use Rattle.atn.proofs.Readings.{replyReach, closed, Keeps, format-keeps}
-use Rattle.atn.proofs.Outcomes.{passes, early, Settled, NoRoom, Refused, settle-fits, settle-full, settle-refused, decide-go, decide-accepted, decide-refused}
+use Rattle.atn.proofs.Outcomes.{passes, early, Settled, NoRoom, Refused, settle-fits, settle-full, settle-refused, decide-go, decide-accepted, decide-kept, decide-refused}
 
 ---------------------------------------------------------------- what the demands speak of
 
@@ -146,6 +146,11 @@ module _ (ts : List Test) (F : List ℕ → Reply) (keeps : Keeps F) where
       let o : closed (F (take j s)) ≡ false = keeps .short s (take j s) (rw i) (rw i (omega arith)) a in
       let f : leb (length (take j s)) 8192 ≡ true = le-leb (length (take j s)) 8192 (omega (arith, leb-true (length s) 8192 (x .0))) in
       rw (entered (take j s) v f (x .1)) (open-outcome (F (take j s)) v o g)
+
+  -- the lent words keep their number
+  pub words-kept : (s w : List ℕ) → length (enter ts F s w .1) ≡ length w
+  unfolding enter
+  words-kept s w = decide-kept (test (frame-fits s) 1 ∷ ts) (F s) w
 
   -- a refusal leaves the lent words
   pub words-left : (s w : List ℕ) {n p k : ℕ} {w′ : List ℕ} → enter ts F s w ≡ (refused n p k, w′) → w′ ≡ w

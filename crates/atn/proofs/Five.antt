@@ -7,10 +7,10 @@ use lib.ListN.{length, drop, take}
 use Rattle.atn.specs.Format.{Fmt}
 use Rattle.atn.specs.Reading.{Rec}
 use Rattle.atn.specs.Messages.{aircraftPdus, groundPdus, cmGround, cmAircraft, acse}
-use Rattle.atn.specs.Entries.{Reply, accept, readFrame, orElse, Answer, accepted, refused, Outcome, flat, need, Test, test, enter, frame-fits, table-fits, direction-fits, pdus, parse-pdus, parse-apdu, parse-cm-ground, parse-cm-logon, parse-acse-apdu}
+use Rattle.atn.specs.Entries.{Reply, accept, readFrame, orElse, Answer, accepted, refused, Outcome, flat, need, Test, enter, frame-fits, pdus, pdus-tests, apdu-tests, parse-pdus, parse-apdu, parse-cm-ground, parse-cm-logon, parse-acse-apdu}
 use Rattle.atn.proofs.Readings.{Keeps, format-keeps, both-keep}
 use Rattle.atn.proofs.Outcomes.{passes, early, NoRoom}
-use Rattle.atn.proofs.Demands.{Message, Shares, CutOrOut, Enough, whole-again, bad-again, cut-to, words-left, room-refused, refused-room, reach-inside, refused-inside, clean-sound, clean-complete}
+use Rattle.atn.proofs.Demands.{Message, Shares, CutOrOut, Enough, whole-again, bad-again, cut-to, words-kept, words-left, room-refused, refused-room, reach-inside, refused-inside, clean-sound, clean-complete}
 
 -- an entry P of frame and words, which reads by F where all of the tests ts hold
 pub record Owes (ts : List Test) (F : List ℕ → Reply) (P : List ℕ → List ℕ → Outcome) : Type 0 where
@@ -18,6 +18,7 @@ pub record Owes (ts : List Test) (F : List ℕ → Reply) (P : List ℕ → List
       → (R : List Rec) × (k ≡ length R) × (w′ ≡ flat R ++ drop (need R) w) × (P t v ≡ (accepted false p m k, flat R ++ drop (need R) v))
   pub badlyFormed : (s t w v : List ℕ) {p k : ℕ} {w′ : List ℕ} → P s w ≡ (refused 5 p k, w′) → Shares s t w v p → P t v ≡ (refused 5 p k, v)
   pub cutShort : (s w v : List ℕ) (j : ℕ) {p m k : ℕ} {w′ : List ℕ} → P s w ≡ (accepted false p m k, w′) → j * 8 < p → Enough (F (take j s)) v → CutOrOut (P (take j s) v)
+  pub kept : (s w : List ℕ) → length (P s w .1) ≡ length w
   pub left : (s w : List ℕ) {n p k : ℕ} {w′ : List ℕ} → P s w ≡ (refused n p k, w′) → w′ ≡ w
   pub noRoom : (s w : List ℕ) {p k : ℕ} {w′ : List ℕ} → P s w ≡ (refused 7 p k, w′) → (frame-fits s ≡ true) × (passes ts ≡ true) × NoRoom (F s) w p k w′
   pub noRoom⁻ : (s w : List ℕ) (c : Bool) (p m : ℕ) (R : List Rec) → frame-fits s ≡ true → passes ts ≡ true → F s ≡ accept c p m R → length w < need R → P s w ≡ (refused 7 p (need R), w)
@@ -35,6 +36,7 @@ owes ts F k e =
       whole = λ s t w v h g. whole-again ts F k s t w v h g;
       badlyFormed = λ s t w v h g. bad-again ts F k s t w v e h g;
       cutShort = λ s w v j h l g. cut-to ts F k s w v j h l g;
+      kept = λ s w. words-kept ts F k s w;
       left = λ s w h. words-left ts F k s w h;
       noRoom = λ s w h. room-refused ts F k s w e h;
       noRoom⁻ = λ s w c p m R h g i l. refused-room ts F k s w c p m R h g i l;
@@ -46,12 +48,6 @@ reads-clean : (ts : List Test) (f : Fmt) → ReadsClean ts f (λ s w. enter ts (
 reads-clean ts f = record { sound = λ s w h. clean-sound ts f s w h; complete = λ s w p R h g m l. clean-complete ts f s w p R h g m l }
 
 ---------------------------------------------------------------- the five
-
-abbrev pub pdus-tests : ℕ → List ℕ → List ℕ → List Test
-pdus-tests d down up = test (table-fits down && table-fits up) 2 ∷ test (direction-fits d) 3 ∷ []
-
-abbrev pub apdu-tests : List ℕ → List ℕ → List Test
-apdu-tests down up = test (table-fits down && table-fits up) 2 ∷ []
 
 pub parse-pdus-owes : (d : ℕ) (down up : List ℕ) → Owes (pdus-tests d down up) (λ s. readFrame (pdus d down up) s) (λ s w. parse-pdus s d down up w)
 unfolding parse-pdus early

@@ -12,3 +12,4 @@ pub mod Demands
 pub mod Five
 pub mod Marks
 pub mod Shift
+pub mod Worked

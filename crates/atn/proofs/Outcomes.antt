@@ -5,12 +5,13 @@ use mathlib.Core.Logic.{_⊎_, inl, inr}
 use mathlib.Core.List.{List, [], _∷_, _++_}
 use Prim.Native.Nat.{ℕ, _+_, _*_, _≤_, _<_}
 use native.Mathlib.Omega.{arith}
-use lib.ListN.{length, drop}
+use lib.ListN.{length, drop, length-append, length-drop}
 use lib.Dec.{leb}
-use borrow.Author.Tests.{leb-true, leb-false, le-leb, lt-leb}
-use Rattle.atn.specs.Reading.{Rec}
+use borrow.Author.Tests.{leb-true, le-leb, lt-leb}
+use Rattle.atn.specs.Reading.{Rec, rec}
 use Rattle.atn.specs.Entries.{Reply, accept, ranOut, badly, unsupplied, Answer, accepted, refused, Outcome, flat, need, settle, Test, test, decide, enter, frame-fits}
 use Rattle.atn.proofs.Inverse.{both}
+use Rattle.atn.proofs.Reach.{split}
 use Rattle.atn.proofs.Readings.{replyReach}
 
 -- all tests hold
@@ -46,34 +47,6 @@ answers-differ h = let x = ap (λ (o : Outcome). o .0) h in let z : _≡_ {A = �
 
 ---------------------------------------------------------------- the settlement
 
-settle-accepted : (r : Reply) (w : List ℕ) {c : Bool} {p m k : ℕ} {w′ : List ℕ} → settle r w ≡ (accepted c p m k, w′) → Settled r w c p m k w′
-unfolding settle
-settle-accepted (accept c′ p′ m′ R) w {c} {p} {m} {k} {w′} h = go (leb (need R) (length w)) refl h
-  where
-    go : (t : Bool) → leb (need R) (length w) ≡ t → _≡_ {A = Outcome} (cond t (accepted c′ p′ m′ (length R), flat R ++ drop (need R) w) (refused 7 p′ (need R), w)) (accepted c p m k, w′) → Settled (accept c′ p′ m′ R) w c p m k w′
-    go true q e = let x = ap (λ (o : Outcome). o .0) e in let y = ap (λ (o : Outcome). o .1) e in record { recs = R; replied = cc; counted = cc; fits = leb-true (need R) (length w) q; words = sym y }
-    go false q e = answers-differ (sym e)
-settle-accepted (ranOut p′) w h = answers-differ (sym h)
-settle-accepted (badly p′) w h = answers-differ (sym h)
-settle-accepted (unsupplied p′) w h = answers-differ (sym h)
-
--- a refusal of the reading, or no room
-pub settle-refused : (r : Reply) (w : List ℕ) {n p k : ℕ} {w′ : List ℕ} → settle r w ≡ (refused n p k, w′) → (w′ ≡ w) × (replyReach r ≡ p) × (n ≡ 7 → NoRoom r w p k w′) × (n ≡ 5 → (r ≡ badly p) × (k ≡ 0))
-unfolding settle replyReach
-settle-refused (accept c′ p′ m′ R) w {n} {p} {k} {w′} h = go (leb (need R) (length w)) refl h
-  where
-    go : (t : Bool) → leb (need R) (length w) ≡ t → _≡_ {A = Outcome} (cond t (accepted c′ p′ m′ (length R), flat R ++ drop (need R) w) (refused 7 p′ (need R), w)) (refused n p k, w′)
-        → (w′ ≡ w) × (p′ ≡ p) × (n ≡ 7 → NoRoom (accept c′ p′ m′ R) w p k w′) × (n ≡ 5 → (accept c′ p′ m′ R ≡ badly p) × (k ≡ 0))
-    go true q e = answers-differ e
-    go false q e =
-        let x = ap (λ (o : Outcome). o .0) e in
-        let y = ap (λ (o : Outcome). o .1) e in
-        let z : 7 ≡ n = cc in
-        (sym y, (cc), (λ _. record { cut = c′; marks = m′; recs = R; replied = cc; needs = cc; full = leb-false (need R) (length w) q; words = sym y }), (λ f. absurd (omega arith)))
-settle-refused (ranOut p′) w {n} {p} {k} {w′} h = let x = ap (λ (o : Outcome). o .0) h in let z : 4 ≡ n = cc in (sym (ap (λ (o : Outcome). o .1) h), (cc), (λ f. absurd (omega arith)), (λ f. absurd (omega arith)))
-settle-refused (badly p′) w {n} {p} {k} {w′} h = let x = ap (λ (o : Outcome). o .0) h in let z : 5 ≡ n = cc in (sym (ap (λ (o : Outcome). o .1) h), (cc), (λ f. absurd (omega arith)), (λ f. (cc, cc)))
-settle-refused (unsupplied p′) w {n} {p} {k} {w′} h = let x = ap (λ (o : Outcome). o .0) h in let z : 6 ≡ n = cc in (sym (ap (λ (o : Outcome). o .1) h), (cc), (λ f. absurd (omega arith)), (λ f. absurd (omega arith)))
-
 pub settle-fits : (c : Bool) (p m : ℕ) (R : List Rec) (w : List ℕ) → need R ≤ length w → settle (accept c p m R) w ≡ (accepted c p m (length R), flat R ++ drop (need R) w)
 unfolding settle
 settle-fits c p m R w h = rw (le-leb (need R) (length w) h)
@@ -81,6 +54,50 @@ settle-fits c p m R w h = rw (le-leb (need R) (length w) h)
 pub settle-full : (c : Bool) (p m : ℕ) (R : List Rec) (w : List ℕ) → length w < need R → settle (accept c p m R) w ≡ (refused 7 p (need R), w)
 unfolding settle
 settle-full c p m R w h = rw (lt-leb (need R) (length w) h)
+
+-- four words to a record, so the lent words keep their number
+flat-need : (R : List Rec) → length (flat R) ≡ need R
+unfolding flat need
+flat-need [] = refl
+flat-need (rec t m v s ∷ R) = omega (arith, flat-need R)
+
+settle-kept : (r : Reply) (w : List ℕ) → length (settle r w .1) ≡ length w
+unfolding settle
+settle-kept (accept c p m R) w =
+    split (need R) (length w)
+    (λ l. ap (λ (o : Outcome). length (o .1)) (settle-fits c p m R w l) ∙ length-append (flat R) (drop (need R) w) ∙ omega (arith, flat-need R, length-drop (need R) w))
+    (λ l. ap (λ (o : Outcome). length (o .1)) (settle-full c p m R w l))
+settle-kept (ranOut p) w = refl
+settle-kept (badly p) w = refl
+settle-kept (unsupplied p) w = refl
+
+settle-accepted : (r : Reply) (w : List ℕ) {c : Bool} {p m k : ℕ} {w′ : List ℕ} → settle r w ≡ (accepted c p m k, w′) → Settled r w c p m k w′
+unfolding settle
+settle-accepted (accept c p m R) w h =
+    split (need R) (length w)
+    (λ l.
+    let e = sym (settle-fits c p m R w l) ∙ h in
+    let x = ap (λ (o : Outcome). o .0) e in
+    record { recs = R; replied = cc; counted = cc; fits = l; words = sym (ap (λ (o : Outcome). o .1) e) })
+    (λ l. answers-differ (sym h ∙ settle-full c p m R w l))
+settle-accepted (ranOut p′) w h = answers-differ (sym h)
+settle-accepted (badly p′) w h = answers-differ (sym h)
+settle-accepted (unsupplied p′) w h = answers-differ (sym h)
+
+-- a refusal of the reading, or no room
+pub settle-refused : (r : Reply) (w : List ℕ) {n p k : ℕ} {w′ : List ℕ} → settle r w ≡ (refused n p k, w′) → (w′ ≡ w) × (replyReach r ≡ p) × (n ≡ 7 → NoRoom r w p k w′) × (n ≡ 5 → (r ≡ badly p) × (k ≡ 0))
+unfolding settle replyReach
+settle-refused (accept c q m R) w {n} h =
+    split (need R) (length w) (λ l. answers-differ (sym (settle-fits c q m R w l) ∙ h))
+    (λ l.
+    let e = sym (settle-full c q m R w l) ∙ h in
+    let x = ap (λ (o : Outcome). o .0) e in
+    let y = sym (ap (λ (o : Outcome). o .1) e) in
+    let z : 7 ≡ n = cc in
+    (y, (cc), (λ _. record { cut = c; marks = m; recs = R; replied = cc; needs = cc; full = l; words = y }), (λ f. absurd (omega arith))))
+settle-refused (ranOut p′) w {n} {p} {k} {w′} h = let x = ap (λ (o : Outcome). o .0) h in let z : 4 ≡ n = cc in (sym (ap (λ (o : Outcome). o .1) h), (cc), (λ f. absurd (omega arith)), (λ f. absurd (omega arith)))
+settle-refused (badly p′) w {n} {p} {k} {w′} h = let x = ap (λ (o : Outcome). o .0) h in let z : 5 ≡ n = cc in (sym (ap (λ (o : Outcome). o .1) h), (cc), (λ f. absurd (omega arith)), (λ f. (cc, cc)))
+settle-refused (unsupplied p′) w {n} {p} {k} {w′} h = let x = ap (λ (o : Outcome). o .0) h in let z : 6 ≡ n = cc in (sym (ap (λ (o : Outcome). o .1) h), (cc), (λ f. absurd (omega arith)), (λ f. absurd (omega arith)))
 
 ---------------------------------------------------------------- the tests
 
@@ -95,6 +112,12 @@ unfolding decide passes
 decide-accepted [] r w h = (refl, settle-accepted r w h)
 decide-accepted (test true n ∷ ts) r w h = decide-accepted ts r w h
 decide-accepted (test false n ∷ ts) r w h = answers-differ (sym h)
+
+pub decide-kept : (ts : List Test) (r : Reply) (w : List ℕ) → length (decide ts r w .1) ≡ length w
+unfolding decide
+decide-kept [] r w = settle-kept r w
+decide-kept (test true n ∷ ts) r w = decide-kept ts r w
+decide-kept (test false n ∷ ts) r w = refl
 
 -- refused by a test, or by the reading
 pub record Refused (ts : List Test) (r : Reply) (w : List ℕ) (n p k : ℕ) (w′ : List ℕ) : Type 0 where

@@ -108,11 +108,18 @@ unfoldable pub pdus : ℕ → List ℕ → List ℕ → Fmt
 pdus zero down up = aircraftPdus down
 pdus (suc d) down up = groundPdus down up
 
+-- what the two CPDLC entries test, behind the frame's length
+abbrev pub pdus-tests : ℕ → List ℕ → List ℕ → List Test
+pdus-tests d down up = test (table-fits down && table-fits up) 2 ∷ test (direction-fits d) 3 ∷ []
+
+abbrev pub apdu-tests : List ℕ → List ℕ → List Test
+apdu-tests down up = test (table-fits down && table-fits up) 2 ∷ []
+
 unfoldable pub parse-pdus : List ℕ → ℕ → List ℕ → List ℕ → List ℕ → Outcome
-parse-pdus s d down up w = enter (test (table-fits down && table-fits up) 2 ∷ test (direction-fits d) 3 ∷ []) (λ f. readFrame (pdus d down up) f) s w
+parse-pdus s d down up w = enter (pdus-tests d down up) (λ f. readFrame (pdus d down up) f) s w
 
 unfoldable pub parse-apdu : List ℕ → List ℕ → List ℕ → List ℕ → Outcome
-parse-apdu s down up w = enter (test (table-fits down && table-fits up) 2 ∷ []) (λ f. orElse (readFrame (aircraftPdus down) f) (readFrame (groundPdus down up) f)) s w
+parse-apdu s down up w = enter (apdu-tests down up) (λ f. orElse (readFrame (aircraftPdus down) f) (readFrame (groundPdus down up) f)) s w
 
 unfoldable pub parse-cm-ground : List ℕ → List ℕ → Outcome
 parse-cm-ground s w = enter [] (λ f. readFrame cmGround f) s w
