@@ -7,13 +7,34 @@ use native.Mathlib.Omega.{arith}
 use Rattle.x691.specs.Bits.{bitOf}
 use Rattle.x691.specs.Encoding.{width, highest as last}
 use Rattle.atn.specs.Format.{Fmt, num, choice, Alts, none-left, _∥_, alternativesOf, bad}
-use Rattle.atn.specs.Reading.{Rec, rec, Ctx, Ans, stop, mark, read, readChoice}
+use Rattle.atn.specs.Reading.{Rec, rec, Ctx, Ans, ok, stop, glue, then, or, mark, read, readChoice}
 use Rattle.cursor.specs.declared.place.Cursor.{Cursor}
 use Rattle.cursor.specs.declared.place.Got.{Got}
 use Rattle.cursor.specs.Place.{stopped, Pulls, Reads, Takes}
 use Rattle.cursor.specs.Numbers.{lowest, highest, rowsThen, Ranged}
-use Rattle.cursor.proofs.Laws.{reads-same, reads-stop}
+use Rattle.cursor.proofs.Laws.{reads-same, reads-stop, reads-stop-with, pull-then}
 use Rattle.cursor.proofs.FormatLaws.{takes-choice}
+
+-- the index i, and its alternative f
+pub takes-index : (t : ℕ) (fs : Alts) (i : ℕ) (f : Fmt) {s : List ℕ} {c d : Cursor} {T : ℕ → List Rec} (g : Got) → Pulls s c (width (last (alternativesOf fs))) g → g .v ≡ i
+    → ((x : Ctx) (u q : ℕ) → readChoice fs i x (bitOf s) u q ≡ read f x (bitOf s) u q) → Takes f s (g .c) d T → Takes (choice t fs) s c d (λ n. rec t n i 0 ∷ T n)
+takes-index t fs i f {s} {c} {d} {T} g p z e h =
+    let y : Takes (choice t fs) s c d (λ n. rec t n (g .v) 0 ∷ T n) =
+    takes-choice t fs {T = T} g p (λ x.
+    reads-same (λ u q. read f x (bitOf s) u q) (λ u q. readChoice fs (g .v) x (bitOf s) u q)
+    (sym (ap (λ (v : ℕ). readChoice fs v x (bitOf s) (g .c .end) (g .c .at)) z ∙ e x (g .c .end) (g .c .at))) (h .took x)) in
+    rw z at y
+
+-- an index that is not listed: badly formed, mark 1
+pub takes-unlisted : (t : ℕ) (fs : Alts) {s : List ℕ} {c d : Cursor} {T : ℕ → List Rec} (g : Got) → Pulls s c (width (last (alternativesOf fs))) g
+    → ((x : Ctx) (u q : ℕ) → readChoice fs (g .v) x (bitOf s) u q ≡ stop bad q [] 1) → d ≡ stopped (g .c) 5 1 → Takes (choice t fs) s c d T
+unfolding read then glue or
+takes-unlisted t fs {s} {c} {d} {T} g p e q =
+    record {
+      took = λ x.
+          pull-then (width (last (alternativesOf fs))) g (λ v u r. then (ok r (rec t (x .0) v 0 ∷ []) 0) λ y. readChoice fs v x (bitOf s) u y) p
+          (reads-same (λ u r. stop bad r (rec t (x .0) (g .v) 0 ∷ []) 1) _ (rw (e x (g .c .end) (g .c .at))) (reads-stop-with _ bad 1 (λ z. omega arith) q));
+    }
 
 -- an index below n is read by its row
 row-read : (t k n i : ℕ) (fs : Alts) (x : Ctx) (b : ℕ → ℕ) (e p : ℕ) → i < n → readChoice (rowsThen t k n fs) i x b e p ≡ read (num t (lowest (k + i)) (highest (k + i))) x b e p

@@ -15,7 +15,7 @@ use Rattle.cursor.specs.declared.place.Got.{Got}
 use Rattle.cursor.specs.Place.{number, put, stopped, marked, Inside, Pulled, stuck, short, got, Pulls, Opened, shutAlready, ranShort, opened, Opens, Led, stayed, went, failed, Reads, Takes}
 use Rattle.cursor.specs.Formats.{Fields, Maybe, Times}
 use Rattle.atn.proofs.Marks.{or-nil}
-use Rattle.cursor.proofs.Laws.{led-stays, led-from, bit-of, reads-same, reads-then, reads-ok, reads-stop, pull-then, marked-nil}
+use Rattle.cursor.proofs.Laws.{led-inside, led-stays, led-from, bit-of, reads-same, reads-then, reads-ok, reads-stop, pull-then, marked-nil}
 
 -- nothing, and what has no reader
 pub takes-null : {s : List ℕ} {c : Cursor} → Takes null s c c (λ n. [])
@@ -151,10 +151,10 @@ takes-plain {fs} {s} {c} {d} {T} n a h = record { took = λ x. record { led = λ
         (fetch-go (bitOf s) (c .end) (c .at) (flags fs) _ _ (omega (arith, i .0))
         ∙ rw (read-unmarked fs (bitOf s) (c .at) a, n, add-zero (c .at)) (then-nil (c .at) (λ p. readFields fs x (bitOf s) (c .end) (c .at) p)))
 
--- with n of them, which were opened
-pub takes-seq : {fs : Flds} {s : List ℕ} {c d : Cursor} {T : ℕ → List Rec} (n : ℕ) (g : Got) → flags fs ≡ n → allRead fs ≡ true → Opens s c n g → Fields fs s (g .c) d (c .at) T → Takes (seq fs) s c d T
+-- with n of them, which were opened; that the cursor is inside its window may be used of the fields
+pub takes-opened : {fs : Flds} {s : List ℕ} {c d : Cursor} {T : ℕ → List Rec} (n : ℕ) (g : Got) → flags fs ≡ n → allRead fs ≡ true → Opens s c n g → (Inside s c → Fields fs s (g .c) d (c .at) T) → Takes (seq fs) s c d T
 unfolding read
-takes-seq {fs} {s} {c} {d} {T} n g f a o h = record { took = λ x. record { led = λ i. go x i (o .gave i) (h .took x) } }
+takes-opened {fs} {s} {c} {d} {T} n g f a o h = record { took = λ x. record { led = λ i. go x i (o .gave i) (h i .took x) } }
   where
     go : (x : Ctx) → Inside s c → Opened s c n g → Reads (λ u p. readFields fs x (bitOf s) u (c .at) p) s (g .c) d (T (x .0)) → Led (λ u p. read (seq fs) x (bitOf s) u p) c d (T (x .0))
     go x i (shutAlready z q) r = stayed z (led-stays _ (g .c) d (rw q z) (r .led (rw q i)) ∙ q)
@@ -168,6 +168,32 @@ takes-seq {fs} {s} {c} {d} {T} n g f a o h = record { took = λ x. record { led 
         (sym (fetch-go (bitOf s) (c .end) (c .at) (flags fs) _ _ (omega arith) ∙ rw (read-unmarked fs (bitOf s) (c .at) a, f) (then-nil (c .at + n) (λ p. readFields fs x (bitOf s) (c .end) (c .at) p))))
         (r .led (rw q (l, i .1)))
 
+pub takes-seq : {fs : Flds} {s : List ℕ} {c d : Cursor} {T : ℕ → List Rec} (n : ℕ) (g : Got) → flags fs ≡ n → allRead fs ≡ true → Opens s c n g → Fields fs s (g .c) d (c .at) T → Takes (seq fs) s c d T
+takes-seq n g f a o h = takes-opened n g f a o (λ _. h)
+
+pub opened-inside : {s : List ℕ} {c : Cursor} {n : ℕ} {g : Got} → Inside s c → Opens s c n g → Inside s (g .c)
+opened-inside {s} {c} {n} {g} i o = go (o .gave i)
+  where
+    go : Opened s c n g → Inside s (g .c)
+    go (shutAlready h q) = rw q i
+    go (ranShort h l q) = rw q (omega arith, i .1)
+    go (opened h l v q) = rw q (l, i .1)
+
+-- a reading that goes on went on before
+pub reads-back : {s : List ℕ} {c d : Cursor} {R : List Rec} (k : ℕ → ℕ → Ans) → Reads k s c d R → Inside s c → (Inside s d) × (d .why ≡ 0 → c .why ≡ 0)
+reads-back {s} {c} {d} {R} k r i = (led-inside k s c d (r .led i) i, λ z. go z (r .led i))
+  where
+    go : d .why ≡ 0 → Led k c d R → c .why ≡ 0
+    go z (stayed h q) = rw q at z
+    go z (went p m y a l q) = y
+    go z (failed w p m S n y a l q) = y
+
+pub maybe-back : {has : ℕ} {f : Fmt} {s : List ℕ} {c d : Cursor} {T : ℕ → List Rec} → Maybe has f s c d T → Inside s c → (Inside s d) × (d .why ≡ 0 → c .why ≡ 0)
+maybe-back {has} {f} {s} h i = reads-back (λ u p. fork has (ok p [] 0) (read f (0, 0) (bitOf s) u p)) (h .took (0, 0)) i
+
+pub takes-back : {f : Fmt} {s : List ℕ} {c d : Cursor} {T : ℕ → List Rec} → Takes f s c d T → Inside s c → (Inside s d) × (d .why ≡ 0 → c .why ≡ 0)
+takes-back {f} {s} h i = reads-back (λ u p. read f (0, 0) (bitOf s) u p) (h .took (0, 0)) i
+
 -- a presence bit, out of the number of n of them
 pub opened-bit : {s : List ℕ} {c : Cursor} {n : ℕ} {g : Got} (j : ℕ) → Inside s c → Opens s c n g → j < n → g .c .why ≡ 0 → g .v / 2 ^ (n - 1 - j) % 2 ≡ bitOf s (c .at + j)
 opened-bit {s} {c} {n} {g} j i o l z = go (o .gave i)
@@ -176,6 +202,14 @@ opened-bit {s} {c} {n} {g} j i o l z = go (o .gave i)
     go (shutAlready h q) = absurd (h (rw q at z))
     go (ranShort h k q) = absurd (let y : 4 ≡ 0 = rw q at z in omega arith)
     go (opened h k v q) = rw v (bit-of s (c .at) j (n - 1 - j) n (omega arith))
+
+-- the last of them
+pub last-bit : {s : List ℕ} {c : Cursor} {g : Got} (n : ℕ) → Inside s c → Opens s c (suc n) g → g .c .why ≡ 0 → g .v % 2 ≡ bitOf s (c .at + n)
+last-bit {s} {c} {g} n i o z =
+    let e : suc n - 1 - n ≡ 0 = omega arith in
+    let y : g .v / 2 ^ (suc n - 1 - n) % 2 ≡ bitOf s (c .at + n) = opened-bit n i o (omega arith) z in
+    let x : g .v / 2 ^ 0 ≡ g .v = omega arith in
+    ap (λ (v : ℕ). v % 2) (sym x) ∙ (rw e at y)
 
 ---------------------------------------------------------------- lists of a fixed size
 

@@ -82,13 +82,17 @@ reads-ok {s} {c} {d} R m q = record { led = λ i. go i (c .why) refl }
     go i zero z = went (c .at) m z refl (i .0) (q ∙ rw (eq-eqb (c .why) 0 z))
     go i (suc w) z = let n : c .why ≡ 0 → ⊥ = (λ y. omega arith) in stayed n (q ∙ rw (ne-eqb (c .why) 0 n))
 
-pub reads-stop : {s : List ℕ} {c d : Cursor} {R : List Rec} (w : Why) (m : ℕ) → (number w ≡ 0 → ⊥) → d ≡ stopped c (number w) m → Reads (λ u p. stop w p [] m) s c d R
+-- the reading stops, whatever was told before
+pub reads-stop-with : {s : List ℕ} {c d : Cursor} {R : List Rec} (S : List Rec) (w : Why) (m : ℕ) → (number w ≡ 0 → ⊥) → d ≡ stopped c (number w) m → Reads (λ u p. stop w p S m) s c d R
 unfolding stopped
-reads-stop {s} {c} {d} {R} w m n q = record { led = λ i. go i (c .why) refl }
+reads-stop-with {s} {c} {d} {R} S w m n q = record { led = λ i. go i (c .why) refl }
   where
-    go : Inside s c → (v : ℕ) → c .why ≡ v → Led (λ u p. stop w p [] m) c d R
-    go i zero z = failed w (c .at) m [] n z refl (i .0) (q ∙ rw (eq-eqb (c .why) 0 z))
+    go : Inside s c → (v : ℕ) → c .why ≡ v → Led (λ u p. stop w p S m) c d R
+    go i zero z = failed w (c .at) m S n z refl (i .0) (q ∙ rw (eq-eqb (c .why) 0 z))
     go i (suc v) z = let y : c .why ≡ 0 → ⊥ = (λ y. omega arith) in stayed y (q ∙ rw (ne-eqb (c .why) 0 y))
+
+pub reads-stop : {s : List ℕ} {c d : Cursor} {R : List Rec} (w : Why) (m : ℕ) → (number w ≡ 0 → ⊥) → d ≡ stopped c (number w) m → Reads (λ u p. stop w p [] m) s c d R
+reads-stop w m n q = reads-stop-with [] w m n q
 
 ---------------------------------------------------------------- behind a number
 

@@ -4,3 +4,4 @@ pub mod Table
 pub mod NumberLaws
 pub mod FormatLaws
 pub mod ChoiceLaws
+pub mod LengthLaws

@@ -2,3 +2,4 @@ pub mod Place
 pub mod Ranges
 pub mod Numbers
 pub mod Formats
+pub mod Lengths

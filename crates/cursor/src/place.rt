@@ -56,7 +56,7 @@ pub fn bits(s: &[u8], c: Cursor, n: usize) -> Got
 }
 
 // The next n presence bits as a number. They are taken one after another: where the window is too short for all, what is there of them is taken.
-pub fn open(s: &[u8], c: Cursor, n: usize) -> Got
+pub fn presence(s: &[u8], c: Cursor, n: usize) -> Got
     requires { ⌜ n ≤ 64 ⌝ }
     ensures { λ r. ⌜ Opens (now (s .entry)) c n r ⌝ }
 {

@@ -23,10 +23,10 @@ use Rattle.places.specs.declared.angles.MaybePairAt.{MaybePairAt}
 abbrev pub form : ℕ → ℕ → ℕ → Fmt
 form t k j =
     choice t
-      ( num (t + 1) (lowest k) (highest k)
-      ∥ seq (num (t + 2) (lowest j) (highest j) ⨾ num (t + 3) (lowest 9) (highest 9) ⨾ end)
-      ∥ seq (num (t + 2) (lowest j) (highest j) ⨾ num (t + 4) (lowest 5) (highest 5) ⨾ num (t + 5) (lowest 5) (highest 5) ⨾ end)
-      ∥ none-left )
+    (num (t + 1) (lowest k) (highest k)
+    ∥ seq (num (t + 2) (lowest j) (highest j) ⨾ num (t + 3) (lowest 9) (highest 9) ⨾ end)
+    ∥ seq (num (t + 2) (lowest j) (highest j) ⨾ num (t + 4) (lowest 5) (highest 5) ⨾ num (t + 5) (lowest 5) (highest 5) ⨾ end)
+    ∥ none-left)
 
 abbrev pub angle : ℕ → ℕ → ℕ → Fmt
 angle t k j = seq (form t k j ⨾ num (t + 6) (lowest 0) (highest 0) ⨾ end)

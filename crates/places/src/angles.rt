@@ -3,10 +3,10 @@ ghost use mathlib.Core.Path.{_≡_};
 ghost use Prim.Native.Nat.{_<_};
 ghost use Rattle.places.specs.Angles.{Forms, Angles, MaybeAngles, Pairs, MaybePairs};
 use cursor::numbers::ranged;
-use cursor::place::bits;
-use cursor::place::open;
-use cursor::place::stop;
 use cursor::place::Cursor;
+use cursor::place::bits;
+use cursor::place::presence;
+use cursor::place::stop;
 use cursor::ranges::HUNDREDTHS;
 use cursor::ranges::LATITUDE_DEGREES;
 use cursor::ranges::LATITUDE_THOUSANDTHS;
@@ -140,7 +140,13 @@ fn read_angle(s: &[u8], c: Cursor, thousandths: usize, degrees: usize) -> AngleA
     }
 }
 
-fn read_maybe_angle(s: &[u8], c: Cursor, has: u64, thousandths: usize, degrees: usize) -> MaybeAngleAt
+fn read_maybe_angle(
+    s: &[u8],
+    c: Cursor,
+    has: u64,
+    thousandths: usize,
+    degrees: usize,
+) -> MaybeAngleAt
     requires { ⌜ (thousandths < 58) × (degrees < 58) ⌝ }
     ensures { λ r. ⌜ MaybeAngles has thousandths degrees (now (s .entry)) c r ⌝ }
 {
@@ -178,9 +184,21 @@ fn read_maybe_angle(s: &[u8], c: Cursor, has: u64, thousandths: usize, degrees: 
 pub fn read_latlon(s: &[u8], c: Cursor) -> PairAt
     ensures { λ r. ⌜ Pairs (now (s .entry)) c r ⌝ }
 {
-    let flags = open(s, c, 2);
-    let latitude = read_maybe_angle(s, flags.c, flags.v / 2 % 2, LATITUDE_THOUSANDTHS, LATITUDE_DEGREES);
-    let longitude = read_maybe_angle(s, latitude.c, flags.v % 2, LONGITUDE_THOUSANDTHS, LONGITUDE_DEGREES);
+    let flags = presence(s, c, 2);
+    let latitude = read_maybe_angle(
+        s,
+        flags.c,
+        flags.v / 2 % 2,
+        LATITUDE_THOUSANDTHS,
+        LATITUDE_DEGREES,
+    );
+    let longitude = read_maybe_angle(
+        s,
+        latitude.c,
+        flags.v % 2,
+        LONGITUDE_THOUSANDTHS,
+        LONGITUDE_DEGREES,
+    );
     let a = latitude.maybe;
     let b = longitude.maybe;
     let end = longitude.c;
@@ -218,19 +236,13 @@ pub fn read_maybe_latlon(s: &[u8], c: Cursor, has: u64) -> MaybePairAt
             latitude: a,
             longitude: b,
         };
-        let none = MaybePair {
-            has: 0,
-            pair: pair,
-        };
+        let none = MaybePair { has: 0, pair: pair };
         return MaybePairAt { maybe: none, c: c };
     }
     let p = read_latlon(s, c);
     let pair = p.pair;
     let end = p.c;
-    let some = MaybePair {
-        has: 1,
-        pair: pair,
-    };
+    let some = MaybePair { has: 1, pair: pair };
     MaybePairAt {
         maybe: some,
         c: end,

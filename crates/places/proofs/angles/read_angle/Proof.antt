@@ -1,22 +1,17 @@
+use mathlib.Core.Path.{refl}
 use borrow.Author.Needs.{needs}
+use Rattle.atn.specs.Reading.{flags}
+use Rattle.cursor.proofs.FormatLaws.{allRead, takes-plain, fields-must, fields-last}
+use Rattle.places.specs.Angles.{angleRecs}
 use Rattle.places.proofs.angles.read_angle.Statement.{statement}
 use Rattle.places.proofs.angles.read_angle.Tie as tie
-use Rattle.places.proofs.angles.read_angle.Reads as reads
-use Rattle.places.proofs.angles.read_angle.Lts as lts
-use Rattle.cursor.proofs.numbers.ranged.Reads as ranged-reads
-use Rattle.places.proofs.angles.read_form.Reads as read-form-reads
 
--- src/angles.rt:129:9
 read-form-requires : tie.Need-read-form-requires
-read-form-requires c κs = search needs
+read-form-requires c κs = c .before .pre
 
--- src/angles.rt:130:9
-ranged-requires : tie.Need-ranged-requires
-ranged-requires c κs = search needs
-
--- src/angles.rt:125:1
 returns : tie.Need-returns
-returns c = ?
+unfolding flags allRead angleRecs
+returns c = record { reads = λ t. takes-plain refl refl (fields-must (c .before .before .before .read-form .ensures .reads t) (fields-last (c .before .before .ranged .ensures .number _))) }
 
 pub read-angle-spec : {M : Type 1} → statement M
-read-angle-spec = tie.close (tie.spec read-form-requires ranged-requires returns)
+read-angle-spec = tie.close (tie.spec read-form-requires (λ c κs. search needs) returns)
