@@ -5,3 +5,4 @@ pub mod NumberLaws
 pub mod FormatLaws
 pub mod ChoiceLaws
 pub mod LengthLaws
+pub mod TextLaws

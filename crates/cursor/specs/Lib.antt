@@ -3,3 +3,4 @@ pub mod Ranges
 pub mod Numbers
 pub mod Formats
 pub mod Lengths
+pub mod Texts

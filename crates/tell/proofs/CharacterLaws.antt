@@ -1,0 +1,163 @@
+-- Characters by where they stand, and the records of all of them.
+use mathlib.Core.Path.{_≡_, refl, sym, ap, _∙_}
+use mathlib.Core.Bool.{Bool, true, false}
+use mathlib.Core.List.{List, [], _∷_}
+use Prim.Native.Nat.{ℕ, zero, suc, _+_, _-_, _*_, _/_, _^_, _≤_, _<_}
+use native.Mathlib.Nat.{zero-mul, suc-mul, add-mul, mul-assoc, mul-comm, add-zero, add-suc, suc-add, pow-suc, pow-le-pow-right, mul-le-mul-right}
+use native.Mathlib.Numerals.{add-one}
+use native.Mathlib.Omega.{arith}
+use lib.ListN.{length, drop}
+use lib.Dec.{ltb, lit<}
+use borrow.Author.Tests.{ltb-true, ltb-false}
+use Rattle.x691.specs.Bits.{bitOf, uint}
+use Rattle.per.proofs.Laws.{uint-below}
+use Rattle.atn.specs.Reading.{Rec, rec, octets, packs, pack, coded, units}
+use Rattle.records.specs.Puts.{puts}
+use Rattle.records.specs.Told.{Told}
+use Rattle.records.proofs.Putting.{puts-none, puts-more, puts-length}
+use Rattle.tell.specs.declared.characters.Run.{Run}
+use Rattle.tell.specs.Characters.{from, Spelt, Character}
+
+---------------------------------------------------------------- characters
+
+octets-none : (k : ℕ) → octets k [] ≡ 0
+unfolding octets
+octets-none zero = refl
+octets-none (suc k) = refl
+
+length-coded : (b : ℕ → ℕ) (w c at n : ℕ) → length (coded c (units b w at n)) ≡ n
+unfolding coded units
+length-coded b w c at zero = refl
+length-coded b w c at (suc n) = ap suc (length-coded b w c (at + w) n)
+
+module _ (s : List ℕ) (r : Run) where
+  abbrev code : ℕ → ℕ
+  code i = r .first + uint (bitOf s) (r .at + i * r .width) (r .width)
+
+  from-next : (i : ℕ) → i < r .len → from s r i ≡ code i ∷ from s r (suc i)
+  unfolding from coded units
+  from-next i h =
+      let e : r .len - i ≡ suc (r .len - suc i) = omega arith in
+      let f : r .at + i * r .width + r .width ≡ r .at + suc i * r .width = omega (arith, suc-mul i (r .width)) in
+      rw (e, f)
+
+  from-none : (i : ℕ) → r .len ≤ i → from s r i ≡ []
+  unfolding from coded units
+  from-none i h = let e : r .len - i ≡ 0 = omega arith in rw e
+
+  from-length : length (from s r 0) ≡ r .len
+  unfolding from
+  from-length = length-coded _ _ _ _ (r .len - 0) ∙ omega arith
+
+  from-drop : (k i : ℕ) → drop k (from s r i) ≡ from s r (i + k)
+  from-drop zero i = rw (add-zero i)
+  from-drop (suc k) i = go (ltb i (r .len)) refl (from-drop k (suc i))
+    where
+      go : (t : Bool) → ltb i (r .len) ≡ t → drop k (from s r (suc i)) ≡ from s r (suc i + k) → drop (suc k) (from s r i) ≡ from s r (i + suc k)
+      go true q h = rw (from-next i (ltb-true i _ q), add-suc, ← suc-add) h
+      go false q h = let l : r .len ≤ i = ltb-false i _ q in rw (from-none i l, from-none (i + suc k) (omega arith))
+
+  -- a character's bits are among the others'
+  pub place-in : (i : ℕ) → i < r .len → r .at + i * r .width + r .width ≤ r .at + r .len * r .width
+  place-in i h = omega (arith, suc-mul i (r .width), mul-le-mul-right {m = suc i} {n = r .len} (r .width) h)
+
+module _ {s : List ℕ} {r : Run} {i : ℕ} where
+  pub character-here : {v : ℕ} → Spelt s r → i < r .len → v ≡ uint (bitOf s) (r .at + i * r .width) (r .width) → Character s r i (r .first + v)
+  unfolding octets
+  character-here {v} z h q =
+      record {
+        octet = omega (arith, z .octet, uint-below s (r .at + i * r .width) (r .width));
+        front = λ k. rw (from-next s r i h, q);
+      }
+
+  pub character-none : r .len ≤ i → Character s r i 0
+  character-none h =
+      record {
+        octet = omega arith;
+        front = λ k. rw (from-none s r i h, from-none s r (suc i) (omega arith), octets-none (suc k), octets-none k, zero-mul (256 ^ k));
+      }
+
+---------------------------------------------------------------- eight characters
+
+-- v is the number of the first k of the eight characters from i on
+pub record Part (s : List ℕ) (r : Run) (i k v : ℕ) : Type 0 where
+  pub below : v < 256 ^ k
+  pub sum : v * 256 ^ (8 - k) + octets (8 - k) (from s r (i + k)) ≡ octets 8 (from s r i)
+
+module _ {s : List ℕ} {r : Run} {i : ℕ} where
+  pub part-none : Part s r i 0 0
+  part-none = record { below = lit< tt; sum = rw (add-zero i) (omega arith) }
+
+  pub part-fits : {k v : ℕ} → k < 8 → Part s r i k v → v < 256 ^ 7
+  part-fits {k} h p = omega (arith, p .below, pow-le-pow-right {n = 256} (lit< tt) {i = k} {j = 7} (omega arith))
+
+  pub part-more : {k v c : ℕ} → k < 8 → Part s r i k v → Character s r (i + k) c → Part s r i (k + 1) (v * 256 + c)
+  part-more {k} {v} {c} h p x =
+      let j : ℕ = 8 - (k + 1) in
+      let e : 8 - k ≡ suc j = omega arith in
+      let f : i + (k + 1) ≡ suc (i + k) = omega arith in
+      let a : v * 256 ^ suc j + octets (suc j) (from s r (i + k)) ≡ octets 8 (from s r i) = rw e at (p .sum) in
+      record {
+        below = rw (add-one k, pow-suc 256 k) (omega (arith, p .below, x .octet));
+        sum = rw f (omega (arith, a, x .front j, pow-suc 256 j, add-mul (v * 256) c (256 ^ j), mul-assoc v 256 (256 ^ j), ap (λ (y : ℕ). v * y) (pow-suc 256 j ∙ mul-comm (256 ^ j) 256)));
+      }
+
+  pub part-all : {k v : ℕ} → 8 ≤ k → k ≤ 8 → Part s r i k v → v ≡ octets 8 (from s r i)
+  unfolding octets
+  part-all {k} {v} g h p =
+      let e : k ≡ 8 = omega arith in
+      let a : v * 256 ^ 0 + 0 ≡ octets 8 (from s r i) = rw e at (p .sum) in
+      omega arith
+
+---------------------------------------------------------------- the records of all characters
+
+module _ (t m : ℕ) (s : List ℕ) (r : Run) where
+  -- those of the characters from i on
+  abbrev behind : ℕ → List Rec
+  behind i = packs t m (r .len) ((r .len - i + 7) / 8) (from s r i)
+
+  behind-next : (i : ℕ) → i < r .len → behind i ≡ rec t m (octets 8 (from s r i)) (r .len) ∷ behind (i + 8)
+  unfolding packs
+  behind-next i h = let e : (r .len - i + 7) / 8 ≡ suc ((r .len - (i + 8) + 7) / 8) = omega arith in rw (e, from-drop s r 8 i)
+
+  behind-none : (i : ℕ) → r .len ≤ i → behind i ≡ []
+  unfolding packs
+  behind-none i h = let e : (r .len - i + 7) / 8 ≡ 0 = omega arith in rw e
+
+  behind-all : pack t m (from s r 0) ≡ behind 0
+  unfolding pack
+  behind-all = let e : r .len ≡ r .len - 0 = omega arith in rw (from-length s r) (ap (λ (l : ℕ). packs t m (r .len) ((l + 7) / 8) (from s r 0)) e)
+
+length-packs : (t m n k : ℕ) (cs : List ℕ) → length (packs t m n k cs) ≡ k
+unfolding packs
+length-packs t m n zero cs = refl
+length-packs t m n (suc k) cs = ap suc (length-packs t m n k (drop 8 cs))
+
+-- the characters before i are told: with the others told behind m, the words are those of all told behind n
+pub record Upto (t e : ℕ) (s : List ℕ) (r : Run) (w w′ : List ℕ) (n m i : ℕ) : Type 0 where
+  pub words : puts w′ m (behind t e s r i) ≡ puts w n (behind t e s r 0)
+  pub count : m + (r .len - i + 7) / 8 ≡ n + (r .len + 7) / 8
+
+pub upto-none : {t e : ℕ} {s : List ℕ} {r : Run} {w : List ℕ} {n : ℕ} → Upto t e s r w w n n 0
+upto-none = record { words = refl; count = omega arith }
+
+module _ {t e : ℕ} {s : List ℕ} {r : Run} {w w′ : List ℕ} where
+  pub upto-more : {w″ : List ℕ} {n m l i v : ℕ} → i < r .len → Upto t e s r w w′ n m i → v ≡ octets 8 (from s r i) → Told 1 w′ w″ m l (rec t e v (r .len) ∷ []) → Upto t e s r w w″ n l (i + 8)
+  upto-more {w″} {n} {m} {l} {i} {v} h u q x =
+      let c : l ≡ m + 1 = x .count in
+      let y : w″ ≡ puts w′ m (rec t e v (r .len) ∷ []) = x .words in
+      record {
+        words = rw (y, c) (sym (puts-more w′ m (rec t e v (r .len) ∷ []) (behind t e s r (i + 8))) ∙ rw q (rw (behind-next t e s r i h) at (u .words)));
+        count = omega (arith, u .count);
+      }
+
+  pub upto-all : {n m i : ℕ} → r .len ≤ i → Upto t e s r w w′ n m i → Told ((r .len + 7) / 8) w w′ n m (pack t e (from s r 0))
+  upto-all {n} {m} {i} h u =
+      record {
+        count = rw (behind-all t e s r, length-packs t e (r .len) ((r .len - 0 + 7) / 8) (from s r 0)) (omega (arith, u .count));
+        words = rw (behind-all t e s r) (sym (puts-none w′ m) ∙ (rw (behind-none t e s r i h) at (u .words)));
+        few = omega (arith, u .count);
+      }
+
+  pub upto-length : {n m i : ℕ} → Upto t e s r w w′ n m i → length w′ ≡ length w
+  upto-length {n} {m} {i} u = sym (puts-length w′ m (behind t e s r i)) ∙ ap length (u .words) ∙ puts-length w n (behind t e s r 0)
