@@ -3,7 +3,7 @@ use mathlib.Core.Path.{_≡_, refl, sym, ap, _∙_}
 use Prim.Native.Nat.{ℕ, _+_, _*_, _/_, _%_, _≤_, _<_, max}
 use native.Mathlib.Omega.{arith}
 use lib.Arith.{bin-ind}
-use lib.Bits.{bitOr, or-step, or-zero-r}
+use lib.Bits.{bitOr, or-step, or-zero-r, or-comm}
 use Rattle.atn.specs.Reading.{or}
 
 halves : (a b : ℕ) → (bitOr a b / 2 ≡ bitOr (a / 2) (b / 2)) × (bitOr a b % 2 ≡ max (a % 2) (b % 2))
@@ -20,6 +20,13 @@ pub or-assoc : (a b c : ℕ) → or (or a b) c ≡ or a (or b c)
 unfolding or
 or-assoc a b c = assoc a b c
 
+pub or-commutes : (a b : ℕ) → or a b ≡ or b a
+unfolding or
+or-commutes a b = or-comm a b
+
 pub or-nil : (a : ℕ) → or a 0 ≡ a
 unfolding or
 or-nil a = or-zero-r a
+
+pub or-swap : (a b c : ℕ) → or a (or b c) ≡ or b (or a c)
+or-swap a b c = sym (or-assoc a b c) ∙ ap (λ (x : ℕ). or x c) (or-commutes a b) ∙ or-assoc b a c
