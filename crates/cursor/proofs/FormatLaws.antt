@@ -132,7 +132,7 @@ allRead (f ⨾? fs) = allRead fs
 allRead (orNote t v y f fs) = allRead fs
 allRead (unread t fs) = false
 
-read-unmarked : (fs : Flds) (b : ℕ → ℕ) (q : ℕ) → allRead fs ≡ true → unreadMarks fs b q ≡ 0
+pub read-unmarked : (fs : Flds) (b : ℕ → ℕ) (q : ℕ) → allRead fs ≡ true → unreadMarks fs b q ≡ 0
 unfolding allRead unreadMarks
 read-unmarked end b q h = refl
 read-unmarked (f ⨾ fs) b q h = read-unmarked fs b q h

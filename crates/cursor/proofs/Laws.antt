@@ -99,7 +99,7 @@ reads-stop w m n q = reads-stop-with [] w m n q
 abbrev pub Behind : List ℕ → ℕ → (ℕ → ℕ → ℕ → Ans) → ℕ → ℕ → Ans
 Behind s n k u p = pull (bitOf s) u p n (λ v. k v u (p + n))
 
-pulled-inside : (s : List ℕ) (c : Cursor) (n : ℕ) (g : Got) → Inside s c → Pulled s c n g → Inside s (g .c)
+pub pulled-inside : (s : List ℕ) (c : Cursor) (n : ℕ) (g : Got) → Inside s c → Pulled s c n g → Inside s (g .c)
 pulled-inside s c n g i (stuck h q) = rw q i
 pulled-inside s c n g i (short z l q) = rw q i
 pulled-inside s c n g i (got z l v q) = rw q (l, i .1)

@@ -2,14 +2,18 @@
 use mathlib.Core.Path.{_≡_, refl, sym, ap, _∙_}
 use mathlib.Core.Bool.{Bool, true, false}
 use mathlib.Core.List.{List, [], _∷_, _++_, append-nil}
-use Prim.Native.Nat.{ℕ, zero, suc, _+_, _≤_, _<_}
+use Prim.Native.Nat.{ℕ, zero, suc, _+_, _-_, _≤_, _<_}
 use native.Mathlib.Omega.{arith}
 use Rattle.x691.specs.Bits.{bitOf}
-use Rattle.atn.specs.Format.{Fmt, Why, out, bad, lack, quit, lax}
-use Rattle.atn.specs.Reading.{Rec, Ctx, Ans, ok, past, stop, glue, then, or, mark, laxly, giveUp, read}
+use Rattle.atn.specs.Format.{Fmt, Why, out, bad, lack, quit, lax, seq, Flds, _⨾?_, orNote}
+use Rattle.atn.specs.Reading.{Rec, rec, Ctx, Ans, ok, past, stop, glue, then, fork, or, mark, pull, flags, within, laxly, giveUp, read, readFields}
+use Rattle.atn.proofs.Steps.{then-nil, fetch-go, fetch-no, pull-go, pull-no}
 use Rattle.atn.proofs.Marks.{or-assoc, or-nil, or-commutes, or-swap}
 use Rattle.cursor.specs.declared.place.Cursor.{Cursor}
-use Rattle.cursor.specs.Place.{number, put, Inside, Led, Reads, Takes}
+use Rattle.cursor.specs.declared.place.Got.{Got}
+use Rattle.cursor.specs.Place.{number, put, Inside, Pulled, stuck, short, got, Pulls, Opened, shutAlready, ranShort, opened, Opens, Led, Reads, Takes}
+use Rattle.cursor.proofs.Laws.{Behind, pulled-inside}
+use Rattle.cursor.proofs.FormatLaws.{allRead, read-unmarked, opened-inside}
 use Rattle.cursor.specs.Place as place
 use Rattle.records.specs.Told.{Told}
 use Rattle.records.proofs.Telling.{told-none, told-then}
@@ -135,3 +139,64 @@ led-lax-lack t j k (place.Led.failed out p m S n y a l q) z = absurd (let x : 4 
 led-lax-lack t j k (place.Led.failed bad p m S n y a l q) z = absurd (let x : 5 ≡ 6 = rw q at z in omega arith)
 led-lax-lack t j k (place.Led.failed lack p m S n y a l q) z = place.Led.failed lack p m S n y (rw a) l q
 led-lax-lack t j k (place.Led.failed (quit o i v) p m S n y a l q) z = absurd (n refl)
+
+---------------------------------------------------------------- optional fields and presence bits
+
+fork-then : (v p : ℕ) (a : Ans) (k : ℕ → Ans) (R : List Rec) → then (fork v (ok p R 0) a) k ≡ fork v (then (ok p R 0) k) (then a k)
+unfolding fork
+fork-then zero p a k R = refl
+fork-then (suc v) p a k R = refl
+
+-- a field that stands there unless its presence bit is clear, then the others
+pub runs-may : {b a : ℕ} {s : List ℕ} {c : Cursor} {n : ℕ} {w w₁ w₂ : List ℕ} {r t : At} (f : Fmt) (fs : Flds) (x : Ctx) (q has : ℕ) → (Inside s c → c .why ≡ 0 → has ≡ bitOf s q)
+    → Runs b (λ u p. fork has (ok p [] 0) (read f x (bitOf s) u p)) s c n w w₁ r → (r .c .why ≡ 7 → ⊥) → Runs a (λ u p. readFields fs x (bitOf s) u (suc q) p) s (r .c) (r .n) w₁ w₂ t
+    → Runs (b + a) (λ u p. readFields (f ⨾? fs) x (bitOf s) u q p) s c n w w₂ t
+unfolding readFields
+runs-may {s = s} {c} f fs x q has bit h y g =
+    runs-same (λ u p. then (fork has (ok p [] 0) (read f x (bitOf s) u p)) (λ r. readFields fs x (bitOf s) u (suc q) r)) (λ u p. readFields (f ⨾? fs) x (bitOf s) u q p)
+    (λ i z. fork-then has (c .at) _ _ [] ∙ rw (then-nil (c .at) (λ r. readFields fs x (bitOf s) (c .end) (suc q) r), bit i z)) (runs-then _ _ h y g)
+
+-- the same where its absence has a record
+pub runs-note : {b a : ℕ} {s : List ℕ} {c : Cursor} {n : ℕ} {w w₁ w₂ : List ℕ} {r t : At} (e v y : ℕ) (f : Fmt) (fs : Flds) (x : Ctx) (q has : ℕ) → (Inside s c → c .why ≡ 0 → has ≡ bitOf s q)
+    → Runs b (λ u p. fork has (ok p (rec e (x .0) v y ∷ []) 0) (read f x (bitOf s) u p)) s c n w w₁ r → (r .c .why ≡ 7 → ⊥) → Runs a (λ u p. readFields fs x (bitOf s) u (suc q) p) s (r .c) (r .n) w₁ w₂ t
+    → Runs (b + a) (λ u p. readFields (orNote e v y f fs) x (bitOf s) u q p) s c n w w₂ t
+unfolding readFields
+runs-note {s = s} {c} e v y f fs x q has bit h z g =
+    runs-same (λ u p. then (fork has (ok p (rec e (x .0) v y ∷ []) 0) (read f x (bitOf s) u p)) (λ r. readFields fs x (bitOf s) u (suc q) r)) (λ u p. readFields (orNote e v y f fs) x (bitOf s) u q p)
+    (λ i k. fork-then has (c .at) _ _ (rec e (x .0) v y ∷ []) ∙ rw (bit i k)) (runs-then _ _ h z g)
+
+-- a reading that begins at another place of the window
+ran-from : {c e d : Cursor} {p : ℕ} {R : List Rec} (k l : ℕ → ℕ → Ans) → c .why ≡ 0 → e ≡ put c p 0 (c .marks) → k (c .end) p ≡ l (c .end) (c .at) → Ran k e d R → Ran l c d R
+ran-from k l z q y (stayed h x r) = absurd (h (rw q refl))
+ran-from {c} {e} {d} {p} {R} k l z q y (went p′ m w a b x) = let a′ : k (c .end) p ≡ ok p′ R m = rw q at a in went p′ m z (sym y ∙ a′) (rw q at b) (x ∙ rw q)
+ran-from {c} {e} {d} {p} {R} k l z q y (passed m w a x) = let a′ : k (c .end) p ≡ past (c .end) R m = rw q at a in passed m z (sym y ∙ a′) (x ∙ rw q)
+ran-from {c} {e} {d} {p} {R} k l z q y (gaveUp o j t p′ m w a b x) = let a′ : k (c .end) p ≡ stop (quit o j t) p′ R m = rw q at a in gaveUp o j t p′ m z (sym y ∙ a′) (rw q at b) (x ∙ rw q)
+ran-from {c} {e} {d} {p} {R} k l z q y (failed v p′ m S n w a b x) = let a′ : k (c .end) p ≡ stop v p′ S m = rw q at a in failed v p′ m S n z (sym y ∙ a′) (rw q at b) (x ∙ rw q)
+
+-- presence bits, then the fields
+pub runs-opened : {b : ℕ} {s : List ℕ} {c : Cursor} {m : ℕ} {w w′ : List ℕ} {r : At} (fs : Flds) (x : Ctx) (n : ℕ) (g : Got) → flags fs ≡ n → allRead fs ≡ true → Opens s c n g
+    → Runs b (λ u p. readFields fs x (bitOf s) u (c .at) p) s (g .c) m w w′ r → Runs b (λ u p. read (seq fs) x (bitOf s) u p) s c m w w′ r
+unfolding read
+runs-opened {s = s} {c} {r = r} fs x n g f a o y = record { recs = y .recs; ran = λ i. go i (o .gave i) (y .ran (opened-inside i o)); told = y .told }
+  where
+    go : Inside s c → Opened s c n g → Ran (λ u p. readFields fs x (bitOf s) u (c .at) p) (g .c) (r .c) (y .recs) → Ran (λ u p. read (seq fs) x (bitOf s) u p) c (r .c) (y .recs)
+    go i (shutAlready z q) h = let e = ran-stays _ (g .c) (r .c) (rw q z) h in stayed z (e .0 ∙ q) (e .1)
+    go i (ranShort z l q) h =
+        let e : c .at + (c .end - c .at) ≡ c .end = omega (arith, i .0) in
+        let k = read-unmarked fs (within (bitOf s) (c .end)) (c .at) a in
+        let t = ran-stays _ (g .c) (r .c) (rw q (λ y. omega arith)) h in
+        failed out (c .end) 0 [] (λ y. omega arith) z (fetch-no (bitOf s) (c .end) (c .at) (flags fs) _ _ (omega arith) ∙ rw (e, k)) (omega arith) (t .0 ∙ q ∙ rw (or-nil (c .marks)))
+    go i (opened z l v q) h =
+        ran-from (λ u p. readFields fs x (bitOf s) u (c .at) p) (λ u p. read (seq fs) x (bitOf s) u p) z q
+        (sym (fetch-go (bitOf s) (c .end) (c .at) (flags fs) _ _ (omega arith) ∙ rw (read-unmarked fs (bitOf s) (c .at) a, f) (then-nil (c .at + n) (λ p. readFields fs x (bitOf s) (c .end) (c .at) p)))) h
+
+-- n bits, and what follows them
+pub runs-pull : {b : ℕ} {s : List ℕ} {c : Cursor} {m : ℕ} {w w′ : List ℕ} {r : At} (n : ℕ) (g : Got) (k : ℕ → ℕ → ℕ → Ans) → Pulls s c n g → Runs b (λ u p. k (g .v) u p) s (g .c) m w w′ r → Runs b (Behind s n k) s c m w w′ r
+runs-pull {s = s} {c} {r = r} n g k o y = record { recs = y .recs; ran = λ i. go i (o .gave i) (y .ran (pulled-inside s c n g i (o .gave i))); told = y .told }
+  where
+    go : Inside s c → Pulled s c n g → Ran (λ u p. k (g .v) u p) (g .c) (r .c) (y .recs) → Ran (Behind s n k) c (r .c) (y .recs)
+    go i (stuck h q) x = let e = ran-stays _ (g .c) (r .c) (rw q h) x in stayed h (e .0 ∙ q) (e .1)
+    go i (short z l q) x =
+        let t = ran-stays _ (g .c) (r .c) (rw q (λ y. omega arith)) x in
+        failed out (c .at) 0 [] (λ y. omega arith) z (pull-no (bitOf s) (c .end) (c .at) n _ l) (i .0) (t .0 ∙ q ∙ rw (or-nil (c .marks)))
+    go i (got z l v q) x = ran-from (λ u p. k (g .v) u p) (Behind s n k) z q (sym (pull-go (bitOf s) (c .end) (c .at) n _ l ∙ rw (← v))) x
