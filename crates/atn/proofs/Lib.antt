@@ -13,3 +13,5 @@ pub mod Five
 pub mod Marks
 pub mod Shift
 pub mod Worked
+pub mod Firm
+pub mod Elements

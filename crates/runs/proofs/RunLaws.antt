@@ -5,9 +5,10 @@ use mathlib.Core.List.{List, [], _∷_, _++_, append-nil}
 use Prim.Native.Nat.{ℕ, zero, suc, _+_, _-_, _≤_, _<_}
 use native.Mathlib.Omega.{arith}
 use Rattle.x691.specs.Bits.{bitOf}
-use Rattle.atn.specs.Format.{Fmt, Why, out, bad, lack, quit, lax, seq, Flds, _⨾?_, orNote}
-use Rattle.atn.specs.Reading.{Rec, rec, Ctx, Ans, ok, past, stop, glue, then, fork, or, mark, pull, flags, within, laxly, giveUp, read, readFields}
+use Rattle.atn.specs.Format.{Fmt, Why, out, bad, lack, quit, lax, seq, Flds, end, _⨾_, _⨾?_, orNote}
+use Rattle.atn.specs.Reading.{Rec, rec, Ctx, Ans, ok, past, stop, glue, late, then, fork, or, mark, pull, flags, within, laxly, giveUp, read, readFields}
 use Rattle.atn.proofs.Steps.{then-nil, fetch-go, fetch-no, pull-go, pull-no}
+use Rattle.atn.proofs.Firm.{isPast, firm, firm-fork, firm-read}
 use Rattle.atn.proofs.Marks.{or-assoc, or-nil, or-commutes, or-swap}
 use Rattle.cursor.specs.declared.place.Cursor.{Cursor}
 use Rattle.cursor.specs.declared.place.Got.{Got}
@@ -57,16 +58,16 @@ ran-led k (place.Led.failed w p m T h z a l q) y n = failed w p m T h z a l q
 ---------------------------------------------------------------- one after another
 
 module _ (k l : ℕ → ℕ → Ans) {c d e : Cursor} {R S : List Rec} where
-  -- the first goes on, or stops; it has not passed the end
-  pub ran-then : Ran k c d R → (d .why ≡ 7 → ⊥) → Ran l d e S → Ran (λ u p. then (k u p) (λ q. l u q)) c e (R ++ S)
-  unfolding then glue
-  ran-then (stayed h q r) n x = let y = ran-stays l d e (rw q h) x in stayed h (y .0 ∙ q) (rw (r, y .1))
-  ran-then (passed m z a q) n x = absurd (n (rw q refl))
-  ran-then (gaveUp o j t p m z a b q) n x =
+  -- the first does not carry on past the end
+  pub ran-then : isPast (k (c .end) (c .at)) ≡ false → Ran k c d R → Ran l d e S → Ran (λ u p. then (k u p) (λ q. l u q)) c e (R ++ S)
+  unfolding then glue isPast
+  ran-then n (stayed h q r) x = let y = ran-stays l d e (rw q h) x in stayed h (y .0 ∙ q) (rw (r, y .1))
+  ran-then n (passed m z a q) x = let y : true ≡ false = rw a at n in let z : _≡_ {A = ℕ} 0 1 = cc in absurd (omega arith)
+  ran-then n (gaveUp o j t p m z a b q) x =
       let y = ran-stays l d e (rw q (given-some j)) x in
       gaveUp o j t p m z (rw (a, y .1, append-nil R)) b (y .0 ∙ q)
-  ran-then (failed w p m T h z a b q) n x = let y = ran-stays l d e (rw q h) x in failed w p m T h z (rw a) b (y .0 ∙ q)
-  ran-then (went p m z a b q) n x = go x
+  ran-then n (failed w p m T h z a b q) x = let y = ran-stays l d e (rw q h) x in failed w p m T h z (rw a) b (y .0 ∙ q)
+  ran-then n (went p m z a b q) x = go x
     where
       go : Ran l d e S → Ran (λ u p. then (k u p) (λ q. l u q)) c e (R ++ S)
       go (stayed g y r) = absurd (g (rw q refl))
@@ -77,10 +78,10 @@ module _ (k l : ℕ → ℕ → Ans) {c d e : Cursor} {R S : List Rec} where
           gaveUp o j t p′ (or m m′) z (rw (a, y)) (rw q at b′) (q′ ∙ rw q (ap (put c p′ (given j)) (or-assoc (c .marks) m (or (mark t) m′) ∙ ap (or (c .marks)) (or-swap m (mark t) m′))))
       go (failed w p′ m′ T g z′ a′ b′ q′) = let y : l (c .end) p ≡ stop w p′ T m′ = rw q at a′ in failed w p′ (or m m′) (R ++ T) g z (rw (a, y)) (rw q at b′) (q′ ∙ rw (q, or-assoc (c .marks) m m′))
 
-pub runs-then : {b a : ℕ} (k l : ℕ → ℕ → Ans) {s : List ℕ} {c : Cursor} {n : ℕ} {w w₁ w₂ : List ℕ} {r t : At} → Runs b k s c n w w₁ r → (r .c .why ≡ 7 → ⊥) → Runs a l s (r .c) (r .n) w₁ w₂ t
+pub runs-then : {b a : ℕ} (k l : ℕ → ℕ → Ans) {s : List ℕ} {c : Cursor} {n : ℕ} {w w₁ w₂ : List ℕ} {r t : At} → ((u p : ℕ) → isPast (k u p) ≡ false) → Runs b k s c n w w₁ r → Runs a l s (r .c) (r .n) w₁ w₂ t
     → Runs (b + a) (λ u p. then (k u p) (λ q. l u q)) s c n w w₂ t
-runs-then k l {s} {c} {r = r} x h y =
-    record { recs = x .recs ++ y .recs; ran = λ i. ran-then k l (x .ran i) h (y .ran (ran-inside k s c (r .c) (x .ran i) i)); told = told-then (x .told) (y .told) }
+runs-then k l {s} {c} {r = r} h x y =
+    record { recs = x .recs ++ y .recs; ran = λ i. ran-then k l (h (c .end) (c .at)) (x .ran i) (y .ran (ran-inside k s c (r .c) (x .ran i) i)); told = told-then (x .told) (y .told) }
 
 -- the same reading
 pub runs-same : {b : ℕ} (k l : ℕ → ℕ → Ans) {s : List ℕ} {c : Cursor} {n : ℕ} {w w′ : List ℕ} {r : At} → (Inside s c → c .why ≡ 0 → k (c .end) (c .at) ≡ l (c .end) (c .at)) → Runs b k s c n w w′ r → Runs b l s c n w w′ r
@@ -142,28 +143,47 @@ led-lax-lack t j k (place.Led.failed (quit o i v) p m S n y a l q) z = absurd (n
 
 ---------------------------------------------------------------- optional fields and presence bits
 
+then-end : (a : Ans) → then a (λ p. ok p [] 0) ≡ a
+unfolding then glue late
+then-end (ok p R m) = rw (append-nil R, or-nil m)
+then-end (past p R m) = rw (append-nil R, or-nil m)
+then-end (stop w p R m) = refl
+
 fork-then : (v p : ℕ) (a : Ans) (k : ℕ → Ans) (R : List Rec) → then (fork v (ok p R 0) a) k ≡ fork v (then (ok p R 0) k) (then a k)
 unfolding fork
 fork-then zero p a k R = refl
 fork-then (suc v) p a k R = refl
 
--- a field that stands there unless its presence bit is clear, then the others
-pub runs-may : {b a : ℕ} {s : List ℕ} {c : Cursor} {n : ℕ} {w w₁ w₂ : List ℕ} {r t : At} (f : Fmt) (fs : Flds) (x : Ctx) (q has : ℕ) → (Inside s c → c .why ≡ 0 → has ≡ bitOf s q)
-    → Runs b (λ u p. fork has (ok p [] 0) (read f x (bitOf s) u p)) s c n w w₁ r → (r .c .why ≡ 7 → ⊥) → Runs a (λ u p. readFields fs x (bitOf s) u (suc q) p) s (r .c) (r .n) w₁ w₂ t
-    → Runs (b + a) (λ u p. readFields (f ⨾? fs) x (bitOf s) u q p) s c n w w₂ t
+-- a field, then the others
+pub runs-must : {b a : ℕ} {s : List ℕ} {c : Cursor} {n : ℕ} {w w₁ w₂ : List ℕ} {r t : At} (f : Fmt) (fs : Flds) (x : Ctx) (q : ℕ) → firm f ≡ true
+    → Runs b (λ u p. read f x (bitOf s) u p) s c n w w₁ r → Runs a (λ u p. readFields fs x (bitOf s) u q p) s (r .c) (r .n) w₁ w₂ t
+    → Runs (b + a) (λ u p. readFields (f ⨾ fs) x (bitOf s) u q p) s c n w w₂ t
 unfolding readFields
-runs-may {s = s} {c} f fs x q has bit h y g =
+runs-must {s = s} f fs x q firm y g = runs-then (λ u p. read f x (bitOf s) u p) (λ u p. readFields fs x (bitOf s) u q p) (λ u p. firm-read (bitOf s) f x u p firm) y g
+
+-- the last field, which may carry on past the end
+pub runs-last : {b : ℕ} {s : List ℕ} {c : Cursor} {n : ℕ} {w w₁ : List ℕ} {r : At} (f : Fmt) (x : Ctx) (q : ℕ)
+    → Runs b (λ u p. read f x (bitOf s) u p) s c n w w₁ r → Runs b (λ u p. readFields (f ⨾ end) x (bitOf s) u q p) s c n w w₁ r
+unfolding readFields
+runs-last {s = s} {c} f x q y = runs-same (λ u p. read f x (bitOf s) u p) (λ u p. readFields (f ⨾ end) x (bitOf s) u q p) (λ i z. sym (then-end (read f x (bitOf s) (c .end) (c .at)))) y
+
+-- a field that stands there unless its presence bit is clear, then the others
+pub runs-may : {b a : ℕ} {s : List ℕ} {c : Cursor} {n : ℕ} {w w₁ w₂ : List ℕ} {r t : At} (f : Fmt) (fs : Flds) (x : Ctx) (q has : ℕ) → firm f ≡ true → (Inside s c → c .why ≡ 0 → has ≡ bitOf s q)
+    → Runs b (λ u p. fork has (ok p [] 0) (read f x (bitOf s) u p)) s c n w w₁ r → Runs a (λ u p. readFields fs x (bitOf s) u (suc q) p) s (r .c) (r .n) w₁ w₂ t
+    → Runs (b + a) (λ u p. readFields (f ⨾? fs) x (bitOf s) u q p) s c n w w₂ t
+unfolding readFields isPast
+runs-may {s = s} {c} f fs x q has firm bit y g =
     runs-same (λ u p. then (fork has (ok p [] 0) (read f x (bitOf s) u p)) (λ r. readFields fs x (bitOf s) u (suc q) r)) (λ u p. readFields (f ⨾? fs) x (bitOf s) u q p)
-    (λ i z. fork-then has (c .at) _ _ [] ∙ rw (then-nil (c .at) (λ r. readFields fs x (bitOf s) (c .end) (suc q) r), bit i z)) (runs-then _ _ h y g)
+    (λ i z. fork-then has (c .at) _ _ [] ∙ rw (then-nil (c .at) (λ r. readFields fs x (bitOf s) (c .end) (suc q) r), bit i z)) (runs-then _ _ (λ u p. firm-fork has _ _ refl (firm-read (bitOf s) f x u p firm)) y g)
 
 -- the same where its absence has a record
-pub runs-note : {b a : ℕ} {s : List ℕ} {c : Cursor} {n : ℕ} {w w₁ w₂ : List ℕ} {r t : At} (e v y : ℕ) (f : Fmt) (fs : Flds) (x : Ctx) (q has : ℕ) → (Inside s c → c .why ≡ 0 → has ≡ bitOf s q)
-    → Runs b (λ u p. fork has (ok p (rec e (x .0) v y ∷ []) 0) (read f x (bitOf s) u p)) s c n w w₁ r → (r .c .why ≡ 7 → ⊥) → Runs a (λ u p. readFields fs x (bitOf s) u (suc q) p) s (r .c) (r .n) w₁ w₂ t
+pub runs-note : {b a : ℕ} {s : List ℕ} {c : Cursor} {n : ℕ} {w w₁ w₂ : List ℕ} {r t : At} (e v y : ℕ) (f : Fmt) (fs : Flds) (x : Ctx) (q has : ℕ) → firm f ≡ true → (Inside s c → c .why ≡ 0 → has ≡ bitOf s q)
+    → Runs b (λ u p. fork has (ok p (rec e (x .0) v y ∷ []) 0) (read f x (bitOf s) u p)) s c n w w₁ r → Runs a (λ u p. readFields fs x (bitOf s) u (suc q) p) s (r .c) (r .n) w₁ w₂ t
     → Runs (b + a) (λ u p. readFields (orNote e v y f fs) x (bitOf s) u q p) s c n w w₂ t
-unfolding readFields
-runs-note {s = s} {c} e v y f fs x q has bit h z g =
+unfolding readFields isPast
+runs-note {s = s} {c} e v y f fs x q has firm bit z g =
     runs-same (λ u p. then (fork has (ok p (rec e (x .0) v y ∷ []) 0) (read f x (bitOf s) u p)) (λ r. readFields fs x (bitOf s) u (suc q) r)) (λ u p. readFields (orNote e v y f fs) x (bitOf s) u q p)
-    (λ i k. fork-then has (c .at) _ _ (rec e (x .0) v y ∷ []) ∙ rw (bit i k)) (runs-then _ _ h z g)
+    (λ i k. fork-then has (c .at) _ _ (rec e (x .0) v y ∷ []) ∙ rw (bit i k)) (runs-then _ _ (λ u p. firm-fork has _ _ refl (firm-read (bitOf s) f x u p firm)) z g)
 
 -- a reading that begins at another place of the window
 ran-from : {c e d : Cursor} {p : ℕ} {R : List Rec} (k l : ℕ → ℕ → Ans) → c .why ≡ 0 → e ≡ put c p 0 (c .marks) → k (c .end) p ≡ l (c .end) (c .at) → Ran k e d R → Ran l c d R

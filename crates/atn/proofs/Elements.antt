@@ -1,0 +1,45 @@
+-- The elements of any lent table tell no places, and never carry on past the end of their window.
+use mathlib.Core.Path.{_≡_, refl, ap, _∙_}
+use mathlib.Core.Bool.{Bool, true, false, _&&_}
+use mathlib.Core.List.{List, [], _∷_}
+use Prim.Native.Nat.{ℕ, zero, suc}
+use lib.ListN.{getD}
+use Rattle.atn.specs.Format.{Fmt, Alts, none-left, _∥_}
+use Rattle.atn.specs.Messages.{arguments, noReader, argumentOf, elements, messageData}
+use Rattle.atn.proofs.Inverse.{both}
+use Rattle.atn.proofs.Firm.{firm, firmFields, firmChoice}
+use Rattle.atn.proofs.Shift.{placeless, placelessFields, placelessChoice}
+
+unfoldable every : (Fmt → Bool) → List Fmt → Bool
+every p [] = true
+every p (f ∷ fs) = p f && every p fs
+
+every-get : (p : Fmt → Bool) (fs : List Fmt) (d : Fmt) (k : ℕ) → every p fs ≡ true → p d ≡ true → p (getD fs k d) ≡ true
+unfolding every
+every-get p [] d k h g = g
+every-get p (f ∷ fs) d zero h g = both (p f) (every p fs) h .0
+every-get p (f ∷ fs) d (suc k) h g = every-get p fs d k (both (p f) (every p fs) h .1) g
+
+argument-firm : (k : ℕ) → firm (argumentOf k) ≡ true
+unfolding argumentOf firm firmFields firmChoice every
+argument-firm zero = refl
+argument-firm (suc k) = every-get firm arguments noReader k refl refl
+
+argument-placeless : (k : ℕ) → placeless (argumentOf k) ≡ true
+unfolding argumentOf placeless placelessFields placelessChoice every
+argument-placeless zero = refl
+argument-placeless (suc k) = every-get placeless arguments noReader k refl refl
+
+pub elements-firm : (table : List ℕ) → firmChoice (elements table) ≡ true
+unfolding elements firmChoice
+elements-firm [] = refl
+elements-firm (k ∷ table) = rw (argument-firm k, elements-firm table) refl
+
+pub elements-placeless : (table : List ℕ) → placelessChoice (elements table) ≡ true
+unfolding elements placelessChoice
+elements-placeless [] = refl
+elements-placeless (k ∷ table) = rw (argument-placeless k, elements-placeless table) refl
+
+pub data-placeless : (table : List ℕ) → placeless (messageData table) ≡ true
+unfolding placeless placelessFields placelessChoice
+data-placeless table = rw (elements-placeless table) refl
