@@ -102,7 +102,7 @@ same-end a p q = go (eqb p q) refl
     go true h = let z = eqb-true p q h in eq-eqb (a + p) (a + q) (omega arith)
     go false h = ne-eqb (a + p) (a + q) (λ y. eqb-false p q h (omega arith))
 
-moved-close : (a q : ℕ) (x : Ans) → close (a + q) (moved a x) ≡ moved a (close q x)
+pub moved-close : (a q : ℕ) (x : Ans) → close (a + q) (moved a x) ≡ moved a (close q x)
 unfolding moved close shut
 moved-close a q (ok p R m) = rw (same-end a p q)
 moved-close a q (past p R m) = rw (same-end a p q)

@@ -1,1 +1,3 @@
 pub mod RunLaws
+pub mod InnerLaws
+pub mod WindowLaws

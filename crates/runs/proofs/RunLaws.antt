@@ -17,7 +17,7 @@ use Rattle.cursor.proofs.Laws.{Behind, pulled-inside}
 use Rattle.cursor.proofs.FormatLaws.{allRead, read-unmarked, opened-inside}
 use Rattle.cursor.specs.Place as place
 use Rattle.records.specs.Told.{Told}
-use Rattle.records.proofs.Telling.{told-none, told-then}
+use Rattle.records.proofs.Telling.{told-none, told-then, told-within}
 use Rattle.runs.specs.declared.At.{At}
 use Rattle.runs.specs.Runs.{given, Ran, stayed, went, passed, gaveUp, failed, Runs}
 
@@ -107,6 +107,27 @@ runs-untold k h z = record { recs = []; ran = λ i. ran-led k (h .led i) (λ y. 
 -- behind a stop nothing happens
 pub runs-stayed : (k : ℕ → ℕ → Ans) {s : List ℕ} {c : Cursor} {n : ℕ} {w : List ℕ} → (c .why ≡ 0 → ⊥) → Runs 0 k s c n w w (record { n = n; c = c })
 runs-stayed k h = record { recs = []; ran = λ i. stayed h refl refl; told = told-none }
+
+-- a reading that tells nothing
+pub runs-silent : (k : ℕ → ℕ → Ans) {s : List ℕ} {c d : Cursor} {n : ℕ} {w : List ℕ} → Reads k s c d [] → Runs 0 k s c n w w (record { n = n; c = d })
+runs-silent k h = record { recs = []; ran = λ i. ran-led k (h .led i) (λ _. refl) (λ _. refl); told = told-none }
+
+pub runs-within : {j : ℕ} (b : ℕ) (k : ℕ → ℕ → Ans) {s : List ℕ} {c : Cursor} {n : ℕ} {w w′ : List ℕ} {r : At} → j ≤ b → Runs j k s c n w w′ r → Runs b k s c n w w′ r
+runs-within b k l x = record { recs = x .recs; ran = x .ran; told = told-within b l (x .told) }
+
+-- a bit that chooses between two readings
+module _ {b : ℕ} (k l : ℕ → ℕ → Ans) {s : List ℕ} {c : Cursor} {n : ℕ} {w w′ : List ℕ} {r : At} (v : ℕ) where
+  pub runs-clear : v ≡ 0 → Runs b k s c n w w′ r → Runs b (λ u p. fork v (k u p) (l u p)) s c n w w′ r
+  unfolding fork
+  runs-clear z x = rw z x
+
+  pub runs-set : (v ≡ 0 → ⊥) → Runs b l s c n w w′ r → Runs b (λ u p. fork v (k u p) (l u p)) s c n w w′ r
+  unfolding fork
+  runs-set = go v
+    where
+      go : (v : ℕ) → (v ≡ 0 → ⊥) → Runs b l s c n w w′ r → Runs b (λ u p. fork v (k u p) (l u p)) s c n w w′ r
+      go zero h x = absurd (h refl)
+      go (suc v) h x = x
 
 ---------------------------------------------------------------- parts that are given up
 

@@ -1,0 +1,6 @@
+pub mod GrowLaws
+pub mod FormatLaws
+pub mod SequenceLaws
+pub mod BodyLaws
+pub mod ApduLaws
+pub mod EntryLaws

@@ -1,0 +1,4 @@
+pub mod SoFar
+pub mod Notes
+pub mod Bodies
+pub mod Apdus

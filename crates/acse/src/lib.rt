@@ -1,0 +1,40 @@
+// Association control: `parse_acse_apdu`. The message is read as a value first, and its records, three at most, are written once it is known that they fit.
+ghost use Rattle.atn.specs.Entries.{parse-acse-apdu};
+ghost use Rattle.answers.specs.Says.{Says};
+use answers::Answer;
+
+mod tags; // tags.rt
+mod notes; // notes.rt: records by value
+mod reasons; // reasons.rt: reasons behind an extension bit
+mod bodies; // bodies.rt: release and abort
+mod apdu; // apdu.rt: the message
+mod telling; // telling.rt: its records, in lent words
+
+// The bytes of the longest frame.
+const LONGEST: usize = 8192;
+
+pub fn parse_acse_apdu(frame: &[u8], words: &mut [u64]) -> Answer
+    ensures { λ r. ⌜ Says r (now (words .exit)) (parse-acse-apdu (now (frame .entry)) (now (words .entry))) ⌝ }
+{
+    if LONGEST < frame.len() {
+        return Answer::Refused {
+            number: 1,
+            reach: 0,
+            need: 0,
+        };
+    }
+    let apdu = apdu::read_apdu(frame);
+    match apdu {
+        apdu::Apdu::Heard(message) => telling::settle_message(message, words),
+        apdu::Apdu::RanOut(reach) => Answer::Refused {
+            number: 4,
+            reach: reach,
+            need: 0,
+        },
+        apdu::Apdu::Badly(reach) => Answer::Refused {
+            number: 5,
+            reach: reach,
+            need: 0,
+        },
+    }
+}

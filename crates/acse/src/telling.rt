@@ -1,0 +1,61 @@
+// The records of a message, in lent words.
+ghost use mathlib.Core.Path.{_≡_};
+ghost use Prim.Native.Nat.{_<_, _≤_, _^_};
+ghost use lib.ListN.{length};
+ghost use Rattle.atn.specs.Entries.{settle};
+ghost use Rattle.records.specs.Told.{Told};
+ghost use Rattle.answers.specs.Says.{Says};
+ghost use Rattle.acse.specs.Notes.{noteRecs};
+ghost use Rattle.acse.specs.Apdus.{messageReply};
+use super::apdu::Message;
+use super::notes::Note;
+use super::tags;
+use answers::Answer;
+use records::emit;
+use records::space::words_for;
+
+fn count(n: Note) -> usize
+    ensures { λ r. ⌜ (r ≡ length (noteRecs n)) × (r ≤ 1) ⌝ }
+{
+    if n.told {
+        return 1;
+    }
+    0
+}
+
+// The note's record, with n before it, and how many there are then.
+fn tell(words: &mut [u64], n: usize, note: Note) -> usize
+    requires { ⌜ n < 2 ^ 32 ⌝ }
+    ensures { λ m. ⌜ Told 1 (now (words .entry)) (now (words .exit)) n m (noteRecs note) ⌝ }
+{
+    if note.told {
+        return emit(words, n, note.tag, 0, note.value, note.second);
+    }
+    n
+}
+
+// Without room for all its records a message is refused, and the words stay.
+pub fn settle_message(message: Message, words: &mut [u64]) -> Answer
+    ensures { λ r. ⌜ Says r (now (words .exit)) (settle (messageReply message) (now (words .entry))) ⌝ }
+{
+    let first = message.first;
+    let next = message.next;
+    let told = 1 + count(first) + count(next);
+    let need = words_for(told);
+    if words.len() < need {
+        return Answer::Refused {
+            number: 7,
+            reach: message.reach,
+            need: need,
+        };
+    }
+    let n = emit(words, 0, tags::ACSE_PDU, 0, message.pdu, message.second);
+    let m = tell(words, n, first);
+    tell(words, m, next);
+    Answer::Accepted {
+        cut: message.cut,
+        reach: message.reach,
+        marks: message.marks,
+        count: told,
+    }
+}

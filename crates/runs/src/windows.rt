@@ -1,0 +1,55 @@
+// The end of an inner string, seen from the window around it.
+ghost use mathlib.Core.Path.{_≡_};
+ghost use Rattle.runs.specs.Windows.{closed, closedWhy, closedMarks};
+use cursor::place::Cursor;
+
+// d stands behind the string, r where the reading inside it ended. What was given up or passed over inside is accepted; running past the string's end is badly formed.
+pub fn close_window(d: Cursor, r: Cursor) -> Cursor
+    ensures { λ c. ⌜ c ≡ closed d r ⌝ }
+{
+    let at = d.at;
+    let end = d.end;
+    let why = closed_why(r.why);
+    let marks = closed_marks(r);
+    Cursor {
+        at: at,
+        end: end,
+        why: why,
+        marks: marks,
+    }
+}
+
+fn closed_why(why: u64) -> u64
+    ensures { λ w. ⌜ w ≡ closedWhy why ⌝ }
+{
+    if why == 4 {
+        return 5;
+    }
+    if why == 5 {
+        return 5;
+    }
+    if why == 6 {
+        return 6;
+    }
+    0
+}
+
+// Mark 7 where the reading carried on past the end; mark 6 for bits left, where they count.
+fn closed_marks(r: Cursor) -> u64
+    ensures { λ m. ⌜ m ≡ closedMarks r ⌝ }
+{
+    let marks = r.marks;
+    if r.why == 7 {
+        return marks | 64;
+    }
+    if r.at == r.end {
+        return marks;
+    }
+    if r.why == 0 {
+        return marks | 32;
+    }
+    if r.why == 9 {
+        return marks | 32;
+    }
+    marks
+}

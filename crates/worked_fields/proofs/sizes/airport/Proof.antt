@@ -1,0 +1,26 @@
+-- `worked_fields::sizes::airport` is safe and ends. The row of an airport's size is a row of sizes, by its two ends.
+use lib.Dec.{lit<, lit≤}
+use borrow.Author.Needs.{needs}
+use Rattle.cursor.specs.Numbers.{lowest, highest}
+use Rattle.cursor.specs.Ranges.{ends}
+use Rattle.worked_fields.proofs.sizes.airport.Statement.{statement}
+use Rattle.worked_fields.proofs.sizes.airport.Tie as tie
+
+start-requires : tie.Need-start-requires
+start-requires c κs = search needs
+
+size-requires : tie.Need-size-requires
+unfolding ends lowest highest
+size-requires c κs = record { listed = lit< tt; some = lit≤ tt; ordered = lit≤ tt; most = lit≤ tt }
+
+slice-aggregate-print : tie.Need-slice-aggregate-print
+slice-aggregate-print c = search needs
+
+print-requires : tie.Need-print-requires
+print-requires c κs = search needs
+
+returns : tie.Need-returns
+returns c = search needs
+
+pub airport-spec : {M : Type 1} → statement M
+airport-spec = tie.close (tie.spec start-requires size-requires slice-aggregate-print print-requires returns)
