@@ -1,1 +1,3 @@
 pub mod FieldLaws
+pub mod ElementLaws
+pub mod DataLaws

@@ -1,3 +1,4 @@
 pub mod RunLaws
 pub mod InnerLaws
 pub mod WindowLaws
+pub mod SizeLaws

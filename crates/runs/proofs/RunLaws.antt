@@ -84,15 +84,15 @@ runs-then k l {s} {c} {r = r} h x y =
     record { recs = x .recs ++ y .recs; ran = λ i. ran-then k l (h (c .end) (c .at)) (x .ran i) (y .ran (ran-inside k s c (r .c) (x .ran i) i)); told = told-then (x .told) (y .told) }
 
 -- the same reading
+pub ran-same : (k l : ℕ → ℕ → Ans) {c d : Cursor} {R : List Rec} → (c .why ≡ 0 → k (c .end) (c .at) ≡ l (c .end) (c .at)) → Ran k c d R → Ran l c d R
+ran-same k l q (stayed h e y) = stayed h e y
+ran-same k l q (went p m z a h e) = went p m z (sym (q z) ∙ a) h e
+ran-same k l q (passed m z a e) = passed m z (sym (q z) ∙ a) e
+ran-same k l q (gaveUp o j t p m z a h e) = gaveUp o j t p m z (sym (q z) ∙ a) h e
+ran-same k l q (failed w p m S n z a h e) = failed w p m S n z (sym (q z) ∙ a) h e
+
 pub runs-same : {b : ℕ} (k l : ℕ → ℕ → Ans) {s : List ℕ} {c : Cursor} {n : ℕ} {w w′ : List ℕ} {r : At} → (Inside s c → c .why ≡ 0 → k (c .end) (c .at) ≡ l (c .end) (c .at)) → Runs b k s c n w w′ r → Runs b l s c n w w′ r
-runs-same k l {s} {c} {r = r} q x = record { recs = x .recs; ran = λ i. go i (x .ran i); told = x .told }
-  where
-    go : Inside s c → Ran k c (r .c) (x .recs) → Ran l c (r .c) (x .recs)
-    go i (stayed h e y) = stayed h e y
-    go i (went p m z a h e) = went p m z (sym (q i z) ∙ a) h e
-    go i (passed m z a e) = passed m z (sym (q i z) ∙ a) e
-    go i (gaveUp o j t p m z a h e) = gaveUp o j t p m z (sym (q i z) ∙ a) h e
-    go i (failed w p m S n z a h e) = failed w p m S n z (sym (q i z) ∙ a) h e
+runs-same k l q x = record { recs = x .recs; ran = λ i. ran-same k l (q i) (x .ran i); told = x .told }
 
 ---------------------------------------------------------------- values that were read, told or not
 
@@ -175,36 +175,49 @@ unfolding fork
 fork-then zero p a k R = refl
 fork-then (suc v) p a k R = refl
 
--- a field, then the others
-pub runs-must : {b a : ℕ} {s : List ℕ} {c : Cursor} {n : ℕ} {w w₁ w₂ : List ℕ} {r t : At} (f : Fmt) (fs : Flds) (x : Ctx) (q : ℕ) → firm f ≡ true
-    → Runs b (λ u p. read f x (bitOf s) u p) s c n w w₁ r → Runs a (λ u p. readFields fs x (bitOf s) u q p) s (r .c) (r .n) w₁ w₂ t
-    → Runs (b + a) (λ u p. readFields (f ⨾ fs) x (bitOf s) u q p) s c n w w₂ t
-unfolding readFields
-runs-must {s = s} f fs x q firm y g = runs-then (λ u p. read f x (bitOf s) u p) (λ u p. readFields fs x (bitOf s) u q p) (λ u p. firm-read (bitOf s) f x u p firm) y g
+-- a cursor that goes on went on before
+pub ran-back : (k : ℕ → ℕ → Ans) {c d : Cursor} {R : List Rec} → Ran k c d R → d .why ≡ 0 → c .why ≡ 0
+ran-back k (stayed h q r) z = rw q at z
+ran-back k (went p m y a l q) z = y
+ran-back k (passed m y a q) z = y
+ran-back k (gaveUp o j t p m y a l q) z = y
+ran-back k (failed w p m S n y a l q) z = y
 
--- the last field, which may carry on past the end
-pub runs-last : {b : ℕ} {s : List ℕ} {c : Cursor} {n : ℕ} {w w₁ : List ℕ} {r : At} (f : Fmt) (x : Ctx) (q : ℕ)
-    → Runs b (λ u p. read f x (bitOf s) u p) s c n w w₁ r → Runs b (λ u p. readFields (f ⨾ end) x (bitOf s) u q p) s c n w w₁ r
-unfolding readFields
-runs-last {s = s} {c} f x q y = runs-same (λ u p. read f x (bitOf s) u p) (λ u p. readFields (f ⨾ end) x (bitOf s) u q p) (λ i z. sym (then-end (read f x (bitOf s) (c .end) (c .at)))) y
+module _ (x : Ctx) (s : List ℕ) {c d : Cursor} {R : List Rec} where
+  -- a field, then the others
+  pub ran-must : {e : Cursor} {S : List Rec} (f : Fmt) (fs : Flds) (q : ℕ) → firm f ≡ true → Ran (λ u p. read f x (bitOf s) u p) c d R → Ran (λ u p. readFields fs x (bitOf s) u q p) d e S
+      → Ran (λ u p. readFields (f ⨾ fs) x (bitOf s) u q p) c e (R ++ S)
+  unfolding readFields
+  ran-must f fs q hard y g = ran-then (λ u p. read f x (bitOf s) u p) (λ u p. readFields fs x (bitOf s) u q p) (firm-read (bitOf s) f x (c .end) (c .at) hard) y g
 
--- a field that stands there unless its presence bit is clear, then the others
-pub runs-may : {b a : ℕ} {s : List ℕ} {c : Cursor} {n : ℕ} {w w₁ w₂ : List ℕ} {r t : At} (f : Fmt) (fs : Flds) (x : Ctx) (q has : ℕ) → firm f ≡ true → (Inside s c → c .why ≡ 0 → has ≡ bitOf s q)
-    → Runs b (λ u p. fork has (ok p [] 0) (read f x (bitOf s) u p)) s c n w w₁ r → Runs a (λ u p. readFields fs x (bitOf s) u (suc q) p) s (r .c) (r .n) w₁ w₂ t
-    → Runs (b + a) (λ u p. readFields (f ⨾? fs) x (bitOf s) u q p) s c n w w₂ t
-unfolding readFields isPast
-runs-may {s = s} {c} f fs x q has firm bit y g =
-    runs-same (λ u p. then (fork has (ok p [] 0) (read f x (bitOf s) u p)) (λ r. readFields fs x (bitOf s) u (suc q) r)) (λ u p. readFields (f ⨾? fs) x (bitOf s) u q p)
-    (λ i z. fork-then has (c .at) _ _ [] ∙ rw (then-nil (c .at) (λ r. readFields fs x (bitOf s) (c .end) (suc q) r), bit i z)) (runs-then _ _ (λ u p. firm-fork has _ _ refl (firm-read (bitOf s) f x u p firm)) y g)
+  -- the last field, which may carry on past the end
+  pub ran-last : (f : Fmt) (q : ℕ) → Ran (λ u p. read f x (bitOf s) u p) c d R → Ran (λ u p. readFields (f ⨾ end) x (bitOf s) u q p) c d R
+  unfolding readFields
+  ran-last f q y = ran-same (λ u p. read f x (bitOf s) u p) (λ u p. readFields (f ⨾ end) x (bitOf s) u q p) (λ z. sym (then-end (read f x (bitOf s) (c .end) (c .at)))) y
 
--- the same where its absence has a record
-pub runs-note : {b a : ℕ} {s : List ℕ} {c : Cursor} {n : ℕ} {w w₁ w₂ : List ℕ} {r t : At} (e v y : ℕ) (f : Fmt) (fs : Flds) (x : Ctx) (q has : ℕ) → firm f ≡ true → (Inside s c → c .why ≡ 0 → has ≡ bitOf s q)
-    → Runs b (λ u p. fork has (ok p (rec e (x .0) v y ∷ []) 0) (read f x (bitOf s) u p)) s c n w w₁ r → Runs a (λ u p. readFields fs x (bitOf s) u (suc q) p) s (r .c) (r .n) w₁ w₂ t
-    → Runs (b + a) (λ u p. readFields (orNote e v y f fs) x (bitOf s) u q p) s c n w w₂ t
-unfolding readFields isPast
-runs-note {s = s} {c} e v y f fs x q has firm bit z g =
-    runs-same (λ u p. then (fork has (ok p (rec e (x .0) v y ∷ []) 0) (read f x (bitOf s) u p)) (λ r. readFields fs x (bitOf s) u (suc q) r)) (λ u p. readFields (orNote e v y f fs) x (bitOf s) u q p)
-    (λ i k. fork-then has (c .at) _ _ (rec e (x .0) v y ∷ []) ∙ rw (bit i k)) (runs-then _ _ (λ u p. firm-fork has _ _ refl (firm-read (bitOf s) f x u p firm)) z g)
+  -- a field that stands there unless its presence bit is clear, then the others
+  pub ran-may : {e : Cursor} {S : List Rec} (f : Fmt) (fs : Flds) (q has : ℕ) → firm f ≡ true → (c .why ≡ 0 → has ≡ bitOf s q) → Ran (λ u p. fork has (ok p [] 0) (read f x (bitOf s) u p)) c d R
+      → Ran (λ u p. readFields fs x (bitOf s) u (suc q) p) d e S → Ran (λ u p. readFields (f ⨾? fs) x (bitOf s) u q p) c e (R ++ S)
+  unfolding readFields isPast
+  ran-may f fs q has hard bit y g =
+      ran-same (λ u p. then (fork has (ok p [] 0) (read f x (bitOf s) u p)) (λ r. readFields fs x (bitOf s) u (suc q) r)) (λ u p. readFields (f ⨾? fs) x (bitOf s) u q p)
+      (λ z. fork-then has (c .at) _ _ [] ∙ rw (then-nil (c .at) (λ r. readFields fs x (bitOf s) (c .end) (suc q) r), bit z))
+      (ran-then (λ u p. fork has (ok p [] 0) (read f x (bitOf s) u p)) (λ u p. readFields fs x (bitOf s) u (suc q) p) (firm-fork has _ _ refl (firm-read (bitOf s) f x (c .end) (c .at) hard)) y g)
+
+  pub ran-last-may : (f : Fmt) (q has : ℕ) → (c .why ≡ 0 → has ≡ bitOf s q) → Ran (λ u p. fork has (ok p [] 0) (read f x (bitOf s) u p)) c d R → Ran (λ u p. readFields (f ⨾? end) x (bitOf s) u q p) c d R
+  unfolding readFields
+  ran-last-may f q has bit y =
+      ran-same (λ u p. fork has (ok p [] 0) (read f x (bitOf s) u p)) (λ u p. readFields (f ⨾? end) x (bitOf s) u q p)
+      (λ z. rw (← (bit z)) (ap (fork has (ok (c .at) [] 0)) (sym (then-end (read f x (bitOf s) (c .end) (c .at)))))) y
+
+  -- the same where its absence has a record
+  pub ran-note : {e : Cursor} {S : List Rec} (t v y : ℕ) (f : Fmt) (fs : Flds) (q has : ℕ) → firm f ≡ true → (c .why ≡ 0 → has ≡ bitOf s q)
+      → Ran (λ u p. fork has (ok p (rec t (x .0) v y ∷ []) 0) (read f x (bitOf s) u p)) c d R → Ran (λ u p. readFields fs x (bitOf s) u (suc q) p) d e S → Ran (λ u p. readFields (orNote t v y f fs) x (bitOf s) u q p) c e (R ++ S)
+  unfolding readFields isPast
+  ran-note t v y f fs q has hard bit z g =
+      ran-same (λ u p. then (fork has (ok p (rec t (x .0) v y ∷ []) 0) (read f x (bitOf s) u p)) (λ r. readFields fs x (bitOf s) u (suc q) r)) (λ u p. readFields (orNote t v y f fs) x (bitOf s) u q p)
+      (λ k. fork-then has (c .at) _ _ (rec t (x .0) v y ∷ []) ∙ rw (bit k))
+      (ran-then (λ u p. fork has (ok p (rec t (x .0) v y ∷ []) 0) (read f x (bitOf s) u p)) (λ u p. readFields fs x (bitOf s) u (suc q) p) (firm-fork has _ _ refl (firm-read (bitOf s) f x (c .end) (c .at) hard)) z g)
 
 -- a reading that begins at another place of the window
 ran-from : {c e d : Cursor} {p : ℕ} {R : List Rec} (k l : ℕ → ℕ → Ans) → c .why ≡ 0 → e ≡ put c p 0 (c .marks) → k (c .end) p ≡ l (c .end) (c .at) → Ran k e d R → Ran l c d R
@@ -215,21 +228,18 @@ ran-from {c} {e} {d} {p} {R} k l z q y (gaveUp o j t p′ m w a b x) = let a′ 
 ran-from {c} {e} {d} {p} {R} k l z q y (failed v p′ m S n w a b x) = let a′ : k (c .end) p ≡ stop v p′ S m = rw q at a in failed v p′ m S n z (sym y ∙ a′) (rw q at b) (x ∙ rw q)
 
 -- presence bits, then the fields
-pub runs-opened : {b : ℕ} {s : List ℕ} {c : Cursor} {m : ℕ} {w w′ : List ℕ} {r : At} (fs : Flds) (x : Ctx) (n : ℕ) (g : Got) → flags fs ≡ n → allRead fs ≡ true → Opens s c n g
-    → Runs b (λ u p. readFields fs x (bitOf s) u (c .at) p) s (g .c) m w w′ r → Runs b (λ u p. read (seq fs) x (bitOf s) u p) s c m w w′ r
+pub ran-opened : {s : List ℕ} {c d : Cursor} {R : List Rec} (fs : Flds) (x : Ctx) (n : ℕ) (g : Got) → flags fs ≡ n → allRead fs ≡ true → Inside s c → Opened s c n g
+    → Ran (λ u p. readFields fs x (bitOf s) u (c .at) p) (g .c) d R → Ran (λ u p. read (seq fs) x (bitOf s) u p) c d R
 unfolding read
-runs-opened {s = s} {c} {r = r} fs x n g f a o y = record { recs = y .recs; ran = λ i. go i (o .gave i) (y .ran (opened-inside i o)); told = y .told }
-  where
-    go : Inside s c → Opened s c n g → Ran (λ u p. readFields fs x (bitOf s) u (c .at) p) (g .c) (r .c) (y .recs) → Ran (λ u p. read (seq fs) x (bitOf s) u p) c (r .c) (y .recs)
-    go i (shutAlready z q) h = let e = ran-stays _ (g .c) (r .c) (rw q z) h in stayed z (e .0 ∙ q) (e .1)
-    go i (ranShort z l q) h =
-        let e : c .at + (c .end - c .at) ≡ c .end = omega (arith, i .0) in
-        let k = read-unmarked fs (within (bitOf s) (c .end)) (c .at) a in
-        let t = ran-stays _ (g .c) (r .c) (rw q (λ y. omega arith)) h in
-        failed out (c .end) 0 [] (λ y. omega arith) z (fetch-no (bitOf s) (c .end) (c .at) (flags fs) _ _ (omega arith) ∙ rw (e, k)) (omega arith) (t .0 ∙ q ∙ rw (or-nil (c .marks)))
-    go i (opened z l v q) h =
-        ran-from (λ u p. readFields fs x (bitOf s) u (c .at) p) (λ u p. read (seq fs) x (bitOf s) u p) z q
-        (sym (fetch-go (bitOf s) (c .end) (c .at) (flags fs) _ _ (omega arith) ∙ rw (read-unmarked fs (bitOf s) (c .at) a, f) (then-nil (c .at + n) (λ p. readFields fs x (bitOf s) (c .end) (c .at) p)))) h
+ran-opened {s} {c} {d} fs x n g f a i (shutAlready z q) h = let e = ran-stays _ (g .c) d (rw q z) h in stayed z (e .0 ∙ q) (e .1)
+ran-opened {s} {c} {d} fs x n g f a i (ranShort z l q) h =
+    let e : c .at + (c .end - c .at) ≡ c .end = omega (arith, i .0) in
+    let k = read-unmarked fs (within (bitOf s) (c .end)) (c .at) a in
+    let t = ran-stays _ (g .c) d (rw q (λ y. omega arith)) h in
+    failed out (c .end) 0 [] (λ y. omega arith) z (fetch-no (bitOf s) (c .end) (c .at) (flags fs) _ _ (omega arith) ∙ rw (e, k)) (omega arith) (t .0 ∙ q ∙ rw (or-nil (c .marks)))
+ran-opened {s} {c} fs x n g f a i (opened z l v q) h =
+    ran-from (λ u p. readFields fs x (bitOf s) u (c .at) p) (λ u p. read (seq fs) x (bitOf s) u p) z q
+    (sym (fetch-go (bitOf s) (c .end) (c .at) (flags fs) _ _ (omega arith) ∙ rw (read-unmarked fs (bitOf s) (c .at) a, f) (then-nil (c .at + n) (λ p. readFields fs x (bitOf s) (c .end) (c .at) p)))) h
 
 -- n bits, and what follows them
 pub runs-pull : {b : ℕ} {s : List ℕ} {c : Cursor} {m : ℕ} {w w′ : List ℕ} {r : At} (n : ℕ) (g : Got) (k : ℕ → ℕ → ℕ → Ans) → Pulls s c n g → Runs b (λ u p. k (g .v) u p) s (g .c) m w w′ r → Runs b (Behind s n k) s c m w w′ r

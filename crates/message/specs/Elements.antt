@@ -1,0 +1,39 @@
+-- The elements of a message as readings: functions of the window's end and the place.
+use mathlib.Core.List.{List, []}
+use Prim.Native.Nat.{ℕ, zero, suc}
+use lib.ListN.{getD}
+use Rattle.x691.specs.Bits.{bitOf}
+use Rattle.atn.specs.Format.{Fmt, null, element, choice}
+use Rattle.atn.specs.Messages.{arguments, noReader, argumentOf, elements, constrainedData, messageData, atcMessage}
+use Rattle.atn.specs.Reading.{Ans, ok, fork, times, read}
+use Rattle.atn.specs.Tags as tag
+
+abbrev pub elementFormat : List ℕ → Fmt
+elementFormat table = element (choice tag.element-index (elements table))
+
+-- what the byte k of a table names: its reading without what is tolerated
+unfoldable pub argumentBody : ℕ → Fmt
+argumentBody zero = null
+argumentBody (suc k) = getD arguments k noReader
+
+-- the argument that the byte k of a table names, of the element number i
+unfoldable pub argumentAt : ℕ → ℕ → List ℕ → ℕ → ℕ → Ans
+argumentAt k i s e p = read (argumentOf k) (i, i) (bitOf s) e p
+
+-- the element number i
+unfoldable pub elementAt : List ℕ → ℕ → List ℕ → ℕ → ℕ → Ans
+elementAt table i s e p = read (elementFormat table) (0, i) (bitOf s) e p
+
+-- n elements, from number i on
+unfoldable pub elementsAt : List ℕ → ℕ → ℕ → List ℕ → ℕ → ℕ → Ans
+elementsAt table i n s e p = times (λ j q. read (elementFormat table) (0, j) (bitOf s) e q) i n p
+
+unfoldable pub dataAt : List ℕ → List ℕ → ℕ → ℕ → Ans
+dataAt table s e p = read (messageData table) (0, 0) (bitOf s) e p
+
+unfoldable pub messageAt : List ℕ → List ℕ → ℕ → ℕ → Ans
+messageAt table s e p = read (atcMessage table) (0, 0) (bitOf s) e p
+
+-- the constrained data, if it is there
+unfoldable pub constrainedAt : ℕ → List ℕ → ℕ → ℕ → Ans
+constrainedAt has s e p = fork has (ok p [] 0) (read constrainedData (0, 0) (bitOf s) e p)
