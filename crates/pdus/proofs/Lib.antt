@@ -1,2 +1,1 @@
-pub mod HearLaws
 pub mod IntegrityLaws

@@ -1,8 +1,8 @@
 // The integrity check: bits behind a length. Where the frame ends before it the message is cut; a bad length is passed over with mark 7.
 ghost use Prim.Native.Nat.{_≤_, _<_, _^_};
 ghost use lib.ListN.{length};
-ghost use Rattle.pdus.specs.Hears.{Hears};
 ghost use Rattle.pdus.specs.Parts.{integrity};
+ghost use Rattle.runs.specs.Runs.{Runs};
 use cursor::lengths::length;
 use cursor::lengths::pass;
 use cursor::place::Cursor;
@@ -12,7 +12,7 @@ use runs::At;
 
 pub fn read_integrity(s: &[u8], words: &mut [u64], n: usize, c: Cursor) -> At
     requires { ⌜ (length (now s) ≤ 8192) × (n < 2 ^ 31) ⌝ }
-    ensures { λ r. ⌜ Hears 1 (integrity (now (s .entry))) (now (s .entry)) c n (now (words .entry)) (now (words .exit)) r ⌝ }
+    ensures { λ r. ⌜ Runs 1 (integrity (now (s .entry))) (now (s .entry)) c n (now (words .entry)) (now (words .exit)) r ⌝ }
 {
     let l = length(s, c);
     let first = l.c;
@@ -22,7 +22,7 @@ pub fn read_integrity(s: &[u8], words: &mut [u64], n: usize, c: Cursor) -> At
     let window = end.end;
     let marks = end.marks;
     if c.why != 0 {
-        return At { n: n, c: end };
+        return At { n: n, c: c };
     }
     if end.why == 4 {
         let cut = Cursor {

@@ -11,7 +11,7 @@ use Rattle.x691.specs.Bits.{bitOf, uint}
 use Rattle.atn.specs.Format.{Fmt, Why, out, bad, lack, quit, inner}
 use Rattle.atn.specs.Reading.{Rec, Ctx, Ans, ok, past, stop, or, unless, mark, pull, close, shut, read}
 use Rattle.atn.proofs.Steps.{pull-go, pull-no}
-use Rattle.atn.proofs.Marks.{or-assoc, or-nil, or-commutes}
+use Rattle.atn.proofs.Marks.{or-assoc, or-nil, or-swap}
 use Rattle.atn.proofs.Shift.{placeless, moved, moved-close, shift}
 use Rattle.per.proofs.Laws.{bitOf-part}
 use Rattle.cursor.specs.declared.place.Cursor.{Cursor}
@@ -72,7 +72,7 @@ module _ (f : Fmt) (s : List ℕ) {c d : Cursor} (k : ℕ) (z : placeless f ≡ 
       go : Ran (λ u p. read f (0, 0) (bitOf (part s (c .at) (c .at + k))) u p) (window (c .at) k (d .marks)) r R → Led (stringOf f s k) c (closed d r) R
       go (stayed h _ _) = absurd (h refl)
       go (went p m _ g _ y) = place.Led.went (c .at + k) (or m (unless (eqb p (c .at % 8 + k)) 6)) w (same g ∙ ap (λ t. ok t R (or m (unless (eqb p (c .at % 8 + k)) 6))) e) l (rw (y, q, or-assoc (c .marks) m (unless (eqb p (c .at % 8 + k)) 6)))
-      go (passed m _ g y) = place.Led.went (c .at + k) (or 64 (or m 0)) w (same g ∙ rw (eq-eqb (c .at % 8 + k) (c .at % 8 + k) refl) (ap (λ t. ok t R (or 64 (or m 0))) e)) l (rw (y, q, or-nil m, or-commutes 64 m, or-assoc (c .marks) m 64))
+      go (passed p m _ g _ y) = place.Led.went (c .at + k) (or 64 (or m (unless (eqb p (c .at % 8 + k)) 6))) w (same g ∙ ap (λ t. ok t R (or 64 (or m (unless (eqb p (c .at % 8 + k)) 6)))) e) l (rw (y, q, or-swap 64 m (unless (eqb p (c .at % 8 + k)) 6), or-assoc (or (c .marks) m) 64 (unless (eqb p (c .at % 8 + k)) 6), or-assoc (c .marks) m (or 64 (unless (eqb p (c .at % 8 + k)) 6))))
       go (gaveUp o false t p m _ g _ y) = place.Led.went (c .at + k) (or (mark t) m) w (same g ∙ ap (λ x. ok x R (or (mark t) m)) e) l (rw (y, q))
       go (gaveUp o true t p m _ g _ y) = place.Led.went (c .at + k) (or (mark t) (or m (unless (eqb p (c .at % 8 + k)) 6))) w (same g ∙ ap (λ x. ok x R (or (mark t) (or m (unless (eqb p (c .at % 8 + k)) 6)))) e) l (rw (y, q, or-assoc (c .marks) (or (mark t) m) (unless (eqb p (c .at % 8 + k)) 6), or-assoc (mark t) m (unless (eqb p (c .at % 8 + k)) 6)))
       go (failed out p m S n _ g _ y) = place.Led.failed bad (c .at + k) m S (λ h. omega arith) w (same g ∙ ap (λ t. stop bad t S m) e) l (rw (y, q))

@@ -2,3 +2,4 @@ pub mod RunLaws
 pub mod InnerLaws
 pub mod WindowLaws
 pub mod SizeLaws
+pub mod FrameLaws

@@ -25,7 +25,7 @@ use Rattle.runs.specs.Runs.{given, Ran, stayed, went, passed, gaveUp, fa
 pub ran-inside : (k : ℕ → ℕ → Ans) (s : List ℕ) (c d : Cursor) {R : List Rec} → Ran k c d R → Inside s c → Inside s d
 ran-inside k s c d (stayed h q r) i = rw q i
 ran-inside k s c d (went p m z a l q) i = rw q (l, i .1)
-ran-inside k s c d (passed m z a q) i = rw q (omega arith, i .1)
+ran-inside k s c d (passed p m z a l q) i = rw q (l, i .1)
 ran-inside k s c d (gaveUp o j t p m z a l q) i = rw q (l, i .1)
 ran-inside k s c d (failed w p m S n z a l q) i = rw q (l, i .1)
 
@@ -37,7 +37,7 @@ given-some false h = omega arith
 pub ran-end : (k : ℕ → ℕ → Ans) (c d : Cursor) {R : List Rec} → Ran k c d R → d .end ≡ c .end
 ran-end k c d (stayed h q r) = ap (λ (x : Cursor). x .end) q
 ran-end k c d (went p m z a l q) = ap (λ (x : Cursor). x .end) q
-ran-end k c d (passed m z a q) = ap (λ (x : Cursor). x .end) q
+ran-end k c d (passed p m z a l q) = ap (λ (x : Cursor). x .end) q
 ran-end k c d (gaveUp o j t p m z a l q) = ap (λ (x : Cursor). x .end) q
 ran-end k c d (failed w p m S n z a l q) = ap (λ (x : Cursor). x .end) q
 
@@ -45,7 +45,7 @@ ran-end k c d (failed w p m S n z a l q) = ap (λ (x : Cursor). x .end) q
 pub ran-stays : (k : ℕ → ℕ → Ans) (c d : Cursor) {R : List Rec} → (c .why ≡ 0 → ⊥) → Ran k c d R → (d ≡ c) × (R ≡ [])
 ran-stays k c d h (stayed g q r) = (q, r)
 ran-stays k c d h (went p m z a l q) = absurd (h z)
-ran-stays k c d h (passed m z a q) = absurd (h z)
+ran-stays k c d h (passed p m z a l q) = absurd (h z)
 ran-stays k c d h (gaveUp o j t p m z a l q) = absurd (h z)
 ran-stays k c d h (failed w p m S n z a l q) = absurd (h z)
 
@@ -62,7 +62,7 @@ module _ (k l : ℕ → ℕ → Ans) {c d e : Cursor} {R S : List Rec} where
   pub ran-then : isPast (k (c .end) (c .at)) ≡ false → Ran k c d R → Ran l d e S → Ran (λ u p. then (k u p) (λ q. l u q)) c e (R ++ S)
   unfolding then glue isPast
   ran-then n (stayed h q r) x = let y = ran-stays l d e (rw q h) x in stayed h (y .0 ∙ q) (rw (r, y .1))
-  ran-then n (passed m z a q) x = let y : true ≡ false = rw a at n in let z : _≡_ {A = ℕ} 0 1 = cc in absurd (omega arith)
+  ran-then n (passed p m z a b q) x = let y : true ≡ false = rw a at n in let z : _≡_ {A = ℕ} 0 1 = cc in absurd (omega arith)
   ran-then n (gaveUp o j t p m z a b q) x =
       let y = ran-stays l d e (rw q (given-some j)) x in
       gaveUp o j t p m z (rw (a, y .1, append-nil R)) b (y .0 ∙ q)
@@ -72,7 +72,7 @@ module _ (k l : ℕ → ℕ → Ans) {c d e : Cursor} {R S : List Rec} where
       go : Ran l d e S → Ran (λ u p. then (k u p) (λ q. l u q)) c e (R ++ S)
       go (stayed g y r) = absurd (g (rw q refl))
       go (went p′ m′ z′ a′ b′ q′) = let y : l (c .end) p ≡ ok p′ S m′ = rw q at a′ in went p′ (or m m′) z (rw (a, y)) (rw q at b′) (q′ ∙ rw (q, or-assoc (c .marks) m m′))
-      go (passed m′ z′ a′ q′) = let y : l (c .end) p ≡ past (c .end) S m′ = rw q at a′ in passed (or m m′) z (rw (a, y)) (q′ ∙ rw (q, or-assoc (c .marks) m m′))
+      go (passed p′ m′ z′ a′ b′ q′) = let y : l (c .end) p ≡ past p′ S m′ = rw q at a′ in passed p′ (or m m′) z (rw (a, y)) (rw q at b′) (q′ ∙ rw (q, or-assoc (c .marks) m m′))
       go (gaveUp o j t p′ m′ z′ a′ b′ q′) =
           let y : l (c .end) p ≡ stop (quit o j t) p′ S m′ = rw q at a′ in
           gaveUp o j t p′ (or m m′) z (rw (a, y)) (rw q at b′) (q′ ∙ rw q (ap (put c p′ (given j)) (or-assoc (c .marks) m (or (mark t) m′) ∙ ap (or (c .marks)) (or-swap m (mark t) m′))))
@@ -87,7 +87,7 @@ runs-then k l {s} {c} {r = r} h x y =
 pub ran-same : (k l : ℕ → ℕ → Ans) {c d : Cursor} {R : List Rec} → (c .why ≡ 0 → k (c .end) (c .at) ≡ l (c .end) (c .at)) → Ran k c d R → Ran l c d R
 ran-same k l q (stayed h e y) = stayed h e y
 ran-same k l q (went p m z a h e) = went p m z (sym (q z) ∙ a) h e
-ran-same k l q (passed m z a e) = passed m z (sym (q z) ∙ a) e
+ran-same k l q (passed p m z a h e) = passed p m z (sym (q z) ∙ a) h e
 ran-same k l q (gaveUp o j t p m z a h e) = gaveUp o j t p m z (sym (q z) ∙ a) h e
 ran-same k l q (failed w p m S n z a h e) = failed w p m S n z (sym (q z) ∙ a) h e
 
@@ -179,7 +179,7 @@ fork-then (suc v) p a k R = refl
 pub ran-back : (k : ℕ → ℕ → Ans) {c d : Cursor} {R : List Rec} → Ran k c d R → d .why ≡ 0 → c .why ≡ 0
 ran-back k (stayed h q r) z = rw q at z
 ran-back k (went p m y a l q) z = y
-ran-back k (passed m y a q) z = y
+ran-back k (passed p m y a l q) z = y
 ran-back k (gaveUp o j t p m y a l q) z = y
 ran-back k (failed w p m S n y a l q) z = y
 
@@ -223,7 +223,7 @@ module _ (x : Ctx) (s : List ℕ) {c d : Cursor} {R : List Rec} where
 ran-from : {c e d : Cursor} {p : ℕ} {R : List Rec} (k l : ℕ → ℕ → Ans) → c .why ≡ 0 → e ≡ put c p 0 (c .marks) → k (c .end) p ≡ l (c .end) (c .at) → Ran k e d R → Ran l c d R
 ran-from k l z q y (stayed h x r) = absurd (h (rw q refl))
 ran-from {c} {e} {d} {p} {R} k l z q y (went p′ m w a b x) = let a′ : k (c .end) p ≡ ok p′ R m = rw q at a in went p′ m z (sym y ∙ a′) (rw q at b) (x ∙ rw q)
-ran-from {c} {e} {d} {p} {R} k l z q y (passed m w a x) = let a′ : k (c .end) p ≡ past (c .end) R m = rw q at a in passed m z (sym y ∙ a′) (x ∙ rw q)
+ran-from {c} {e} {d} {p} {R} k l z q y (passed p′ m w a b x) = let a′ : k (c .end) p ≡ past p′ R m = rw q at a in passed p′ m z (sym y ∙ a′) (rw q at b) (x ∙ rw q)
 ran-from {c} {e} {d} {p} {R} k l z q y (gaveUp o j t p′ m w a b x) = let a′ : k (c .end) p ≡ stop (quit o j t) p′ R m = rw q at a in gaveUp o j t p′ m z (sym y ∙ a′) (rw q at b) (x ∙ rw q)
 ran-from {c} {e} {d} {p} {R} k l z q y (failed v p′ m S n w a b x) = let a′ : k (c .end) p ≡ stop v p′ S m = rw q at a in failed v p′ m S n z (sym y ∙ a′) (rw q at b) (x ∙ rw q)
 

@@ -1,12 +1,10 @@
 -- The end of an inner string, by the tests that decide it.
 use mathlib.Core.Path.{_≡_, refl, sym}
-use mathlib.Core.Bool.{Bool, true, false, cond}
 use Prim.Native.Nat.{ℕ}
 use native.Mathlib.Omega.{arith}
 use lib.Dec.{eqb}
 use borrow.Author.Tests.{eq-eqb, ne-eqb}
 use Rattle.atn.specs.Reading.{or, unless, mark}
-use Rattle.atn.proofs.Marks.{or-nil}
 use Rattle.cursor.specs.declared.place.Cursor.{Cursor}
 use Rattle.runs.specs.Windows.{closedWhy, closedMarks}
 
@@ -26,27 +24,26 @@ pub why-none : {w : ℕ} → (w ≡ 4 → ⊥) → (w ≡ 5 → ⊥) → (w ≡ 
 unfolding closedWhy
 why-none {w} n₄ n₅ n₆ = rw (ne-eqb w 4 n₄, ne-eqb w 5 n₅, ne-eqb w 6 n₆)
 
-module _ (r : Cursor) where
-  pub marks-past : r .why ≡ 7 → or (r .marks) 64 ≡ closedMarks r
+pub none-left : {p q : ℕ} → p ≡ q → 0 ≡ unless (eqb p q) 6
+unfolding unless
+none-left {p} {q} e = rw (eq-eqb p q e)
+
+pub some-left : {p q : ℕ} → (p ≡ q → ⊥) → 32 ≡ unless (eqb p q) 6
+unfolding unless mark
+some-left {p} {q} n = rw (ne-eqb p q n)
+
+module _ (r : Cursor) {left : ℕ} (e : left ≡ unless (eqb (r .at) (r .end)) 6) where
+  pub marks-past : r .why ≡ 7 → or (or (r .marks) 64) left ≡ closedMarks r
   unfolding closedMarks
-  marks-past q = rw q
+  marks-past q = rw (q, e)
 
-  pub marks-used : (r .why ≡ 7 → ⊥) → r .at ≡ r .end → r .marks ≡ closedMarks r
-  unfolding closedMarks unless
-  marks-used n e = rw (ne-eqb (r .why) 7 n, eq-eqb (r .at) (r .end) e, or-nil (r .marks)) (same (eqb (r .why) 0) (eqb (r .why) 9))
-    where
-      same : (t u : Bool) → r .marks ≡ cond t (r .marks) (cond u (r .marks) (r .marks))
-      same true u = refl
-      same false true = refl
-      same false false = refl
+  pub marks-left : r .why ≡ 0 → or (r .marks) left ≡ closedMarks r
+  unfolding closedMarks
+  marks-left z = rw (z, e)
 
-  pub marks-left : (r .why ≡ 7 → ⊥) → (r .at ≡ r .end → ⊥) → r .why ≡ 0 → or (r .marks) 32 ≡ closedMarks r
-  unfolding closedMarks unless mark
-  marks-left n e z = rw (z, ne-eqb (r .at) (r .end) e)
-
-  pub marks-dropped : (r .why ≡ 7 → ⊥) → (r .at ≡ r .end → ⊥) → (r .why ≡ 0 → ⊥) → r .why ≡ 9 → or (r .marks) 32 ≡ closedMarks r
-  unfolding closedMarks unless mark
-  marks-dropped n e m z = rw (z, ne-eqb (r .at) (r .end) e)
+  pub marks-dropped : r .why ≡ 9 → or (r .marks) left ≡ closedMarks r
+  unfolding closedMarks
+  marks-dropped z = rw (z, e)
 
   pub marks-kept : (r .why ≡ 7 → ⊥) → (r .why ≡ 0 → ⊥) → (r .why ≡ 9 → ⊥) → r .marks ≡ closedMarks r
   unfolding closedMarks

@@ -15,7 +15,7 @@ closedWhy w = cond (eqb w 4) 5 (cond (eqb w 5) 5 (cond (eqb w 6) 6 0))
 
 -- mark 7 past the end, mark 6 for bits left where they count
 unfoldable pub closedMarks : Cursor → ℕ
-closedMarks r = cond (eqb (r .why) 7) (or (r .marks) 64) (cond (eqb (r .why) 0) (or (r .marks) (unless (eqb (r .at) (r .end)) 6)) (cond (eqb (r .why) 9) (or (r .marks) (unless (eqb (r .at) (r .end)) 6)) (r .marks)))
+closedMarks r = cond (eqb (r .why) 7) (or (or (r .marks) 64) (unless (eqb (r .at) (r .end)) 6)) (cond (eqb (r .why) 0) (or (r .marks) (unless (eqb (r .at) (r .end)) 6)) (cond (eqb (r .why) 9) (or (r .marks) (unless (eqb (r .at) (r .end)) 6)) (r .marks)))
 
 -- d stands behind the string, r where the reading inside it ended
 unfoldable pub closed : Cursor → Cursor → Cursor

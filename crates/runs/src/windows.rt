@@ -1,5 +1,7 @@
 // The end of an inner string, seen from the window around it.
 ghost use mathlib.Core.Path.{_≡_};
+ghost use lib.Dec.{eqb};
+ghost use Rattle.atn.specs.Reading.{unless};
 ghost use Rattle.runs.specs.Windows.{closed, closedWhy, closedMarks};
 use cursor::place::Cursor;
 
@@ -39,17 +41,24 @@ fn closed_marks(r: Cursor) -> u64
     ensures { λ m. ⌜ m ≡ closedMarks r ⌝ }
 {
     let marks = r.marks;
+    let left = left_marks(r.at, r.end);
     if r.why == 7 {
-        return marks | 64;
-    }
-    if r.at == r.end {
-        return marks;
+        return marks | 64 | left;
     }
     if r.why == 0 {
-        return marks | 32;
+        return marks | left;
     }
     if r.why == 9 {
-        return marks | 32;
+        return marks | left;
     }
     marks
+}
+
+fn left_marks(at: usize, end: usize) -> u64
+    ensures { λ m. ⌜ m ≡ unless (eqb at end) 6 ⌝ }
+{
+    if at == end {
+        return 0;
+    }
+    32
 }
