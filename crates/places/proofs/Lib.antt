@@ -1,1 +1,5 @@
 pub mod AngleLaws
+pub mod NameLaws
+pub mod PositionLaws
+pub mod UnreadLaws
+pub mod TellLaws

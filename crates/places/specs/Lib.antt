@@ -1,1 +1,3 @@
 pub mod Angles
+pub mod Names
+pub mod Positions

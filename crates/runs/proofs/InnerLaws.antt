@@ -44,7 +44,7 @@ in-part f x s q k z =
     let b : q ≡ a + q % 8 = omega arith in
     let e : q + k ≡ a + (q % 8 + k) = omega arith in
     let y : read f x (bitOf s) (a + (q % 8 + k)) (a + q % 8) ≡ moved a (read f x (bitOf (part s q (q + k))) (q % 8 + k) (q % 8)) =
-        shift (bitOf (part s q (q + k))) (bitOf s) a (8 * l) (λ i h. bitOf-part s (q / 8) l i h) f x (q % 8 + k) (q % 8) z (omega arith) in
+    shift (bitOf (part s q (q + k))) (bitOf s) a (8 * l) (λ i h. bitOf-part s (q / 8) l i h) f x (q % 8 + k) (q % 8) z (omega arith) in
     let u : close (q + k) (read f x (bitOf s) (q + k) q) ≡ close (a + (q % 8 + k)) (read f x (bitOf s) (a + (q % 8 + k)) (a + q % 8)) = both-moved f x s e b in
     u ∙ ap (close (a + (q % 8 + k))) y ∙ moved-close a (q % 8 + k) (read f x (bitOf (part s q (q + k))) (q % 8 + k) (q % 8))
 

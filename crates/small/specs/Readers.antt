@@ -9,12 +9,13 @@ use Rattle.atn.specs.Tags as tag
 use Rattle.cursor.specs.declared.place.Cursor.{Cursor}
 use Rattle.cursor.specs.Place.{Takes}
 use Rattle.cursor.specs.Numbers.{highest, rowsThen}
+use Rattle.small.specs.declared.frequency.FrequencyAt.{FrequencyAt}
 use Rattle.small.specs.declared.names.NameAt.{NameAt}
 use Rattle.small.specs.declared.names.TripleAt.{TripleAt}
 use Rattle.small.specs.declared.numbers.CodeAt.{CodeAt}
 use Rattle.small.specs.declared.numbers.RunwayAt.{RunwayAt}
 use Rattle.small.specs.declared.quantities.QuantityAt.{QuantityAt}
-use Rattle.small.specs.Records.{quantityRecs, nameRecs, tripleRecs, codeRecs, runwayRecs}
+use Rattle.small.specs.Records.{quantityRecs, nameRecs, tripleRecs, codeRecs, runwayRecs, frequencyRecs, HeldChannel}
 
 -- the bits of an index into n kinds whose rows begin at k
 unfoldable pub indexWidth : ℕ → ℕ → ℕ
@@ -48,3 +49,8 @@ pub record Codes (s : List ℕ) (c : Cursor) (r : CodeAt) : Type 0 where
 -- by the tags of the direction and the side
 pub record Runways (s : List ℕ) (c : Cursor) (r : RunwayAt) : Type 0 where
   pub reads : (t u : ℕ) → Takes (message.runway t u) s c (r .c) (runwayRecs t u (r .runway))
+
+pub record Frequencies (s : List ℕ) (c : Cursor) (r : FrequencyAt) : Type 0 where
+  pub reads : Takes message.frequency s c (r .c) (frequencyRecs s (r .frequency))
+  -- whatever was read
+  pub held : HeldChannel s (r .frequency .channel)
