@@ -1,0 +1,75 @@
+// Context management: `parse_cm_ground` and `parse_cm_logon`. A message is told as it is read, first without words, so that a refusal leaves them all and the number of records is known before any is written.
+ghost use mathlib.Core.Path.{_≡_};
+ghost use Rattle.atn.specs.Entries.{parse-cm-ground, parse-cm-logon};
+ghost use Rattle.answers.specs.declared.Answer.the-variants.{Refused};
+ghost use Rattle.answers.specs.Says.{Says};
+ghost use Rattle.cm.specs.Pdus.{parsed};
+use answers::Answer;
+use cursor::place::Cursor;
+use parts::Step;
+use pdus::pdu;
+use records::space::words_for;
+
+mod tags; // tags.rt
+mod parts; // parts.rt: numbers, texts and reasons, told as they are read
+mod spans; // spans.rt: octets that are told by where they stand
+mod lists; // lists.rt: lists of applications
+mod logon; // logon.rt: logon requests and responses
+mod pdus; // pdus.rt: the messages of the two sides
+
+// The bytes of the longest frame.
+const LONGEST: usize = 8192;
+
+pub fn parse_cm_ground(frame: &[u8], words: &mut [u64]) -> Answer
+    ensures { λ r. ⌜ Says r (now (words .exit)) (parse-cm-ground (now (frame .entry)) (now (words .entry))) ⌝ }
+{
+    parse(frame, words, true)
+}
+
+pub fn parse_cm_logon(frame: &[u8], words: &mut [u64]) -> Answer
+    ensures { λ r. ⌜ Says r (now (words .exit)) (parse-cm-logon (now (frame .entry)) (now (words .entry))) ⌝ }
+{
+    parse(frame, words, false)
+}
+
+// The reading decides before its records are written.
+fn parse(frame: &[u8], words: &mut [u64], ground: bool) -> Answer
+    ensures { λ r. ⌜ Says r (now (words .exit)) (parsed ground (now (frame .entry)) (now (words .entry))) ⌝ }
+{
+    if LONGEST < frame.len() {
+        return refused(1, 0, 0);
+    }
+    let start = Cursor {
+        at: 0,
+        end: frame.len() * 8,
+        why: 0,
+        marks: 0,
+    };
+    let first = Step { c: start, n: 0 };
+    let dry = pdu(&mut words[..0], first, frame, ground);
+    let c = dry.c;
+    if c.why != 0 {
+        return refused(c.why, c.at, 0);
+    }
+    let need = words_for(dry.n);
+    if words.len() < need {
+        return refused(7, c.at, need);
+    }
+    pdu(words, first, frame, ground);
+    Answer::Accepted {
+        cut: false,
+        reach: c.at,
+        marks: c.marks,
+        count: dry.n,
+    }
+}
+
+fn refused(number: u64, reach: usize, need: usize) -> Answer
+    ensures { λ r. ⌜ r ≡ Refused number reach need ⌝ }
+{
+    Answer::Refused {
+        number: number,
+        reach: reach,
+        need: need,
+    }
+}
