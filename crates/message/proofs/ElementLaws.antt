@@ -22,7 +22,8 @@ use Rattle.records.proofs.Telling.{told-none}
 use Rattle.runs.specs.declared.At.{At}
 use Rattle.runs.specs.Runs.{Runs}
 use Rattle.runs.proofs.RunLaws.{runs-then, runs-same, runs-told, runs-untold, runs-stayed, runs-silent, runs-pull, dropped, led-lax, led-lax-lack, ran-lax}
-use Rattle.message.specs.Elements.{argumentBody, argumentAt, elementFormat, elementAt, elementsAt}
+use Rattle.arguments.specs.Arguments.{argumentBody}
+use Rattle.message.specs.Elements.{argumentAt, elementFormat, elementAt, elementsAt}
 
 ---------------------------------------------------------------- the table
 

@@ -1,20 +1,14 @@
 -- The elements of a message as readings: functions of the window's end and the place.
 use mathlib.Core.List.{List, []}
-use Prim.Native.Nat.{ℕ, zero, suc}
-use lib.ListN.{getD}
+use Prim.Native.Nat.{ℕ}
 use Rattle.x691.specs.Bits.{bitOf}
-use Rattle.atn.specs.Format.{Fmt, null, element, choice}
-use Rattle.atn.specs.Messages.{arguments, noReader, argumentOf, elements, constrainedData, messageData, atcMessage}
+use Rattle.atn.specs.Format.{Fmt, element, choice}
+use Rattle.atn.specs.Messages.{argumentOf, elements, constrainedData, messageData, atcMessage}
 use Rattle.atn.specs.Reading.{Ans, ok, fork, times, read}
 use Rattle.atn.specs.Tags as tag
 
 abbrev pub elementFormat : List ℕ → Fmt
 elementFormat table = element (choice tag.element-index (elements table))
-
--- what the byte k of a table names: its reading without what is tolerated
-unfoldable pub argumentBody : ℕ → Fmt
-argumentBody zero = null
-argumentBody (suc k) = getD arguments k noReader
 
 -- the argument that the byte k of a table names, of the element number i
 unfoldable pub argumentAt : ℕ → ℕ → List ℕ → ℕ → ℕ → Ans
