@@ -1,0 +1,143 @@
+-- A leg from its index and its alternative.
+use mathlib.Core.Path.{_≡_, refl, sym, ap, _∙_}
+use mathlib.Core.List.{List, [], _∷_, _++_, append-nil}
+use Prim.Native.Nat.{ℕ, zero, suc, _+_, _*_}
+use native.Mathlib.Nat.{add-comm}
+use native.Mathlib.Numerals.{add-one}
+use native.Mathlib.Omega.{arith}
+use borrow.Author.Tests.{eq-eqb, ne-eqb}
+use Rattle.x691.specs.Bits.{bitOf}
+use Rattle.x691.specs.Encoding.{width, widthIn, count}
+use Rattle.x691.specs.Encoding as encoding
+use Rattle.atn.specs.Format.{Fmt, bad, lack, placed, many, Alts, none-left, _∥_}
+use Rattle.atn.specs.Reading.{Rec, rec, Ctx, Ans, ok, stop, then, times, sized, mark, flags, read, readChoice}
+use Rattle.atn.specs.Messages as message
+use Rattle.cursor.specs.declared.place.Cursor.{Cursor}
+use Rattle.cursor.specs.declared.place.Got.{Got}
+use Rattle.cursor.specs.Place.{stopped, Pulls, Reads, Takes}
+use Rattle.cursor.specs.Texts.{textRecs, SizeRow, Sized}
+use Rattle.cursor.specs.Ranges.{ends}
+use Rattle.cursor.specs.Numbers.{lowest, highest}
+use Rattle.cursor.proofs.Laws.{reads-then, reads-ok, marked-nil}
+use Rattle.cursor.proofs.ChoiceLaws.{takes-index, takes-unlisted}
+use Rattle.cursor.proofs.FormatLaws.{allRead, takes-plain, takes-refuse, takes-times, fields-must, fields-last, times-none, times-more}
+use Rattle.runs.specs.declared.At.{At}
+use Rattle.places.specs.declared.angles.Pair.{Pair}
+use Rattle.places.specs.declared.names.Published.{Published}
+use Rattle.places.specs.Angles.{pairRecs}
+use Rattle.places.specs.Names.{publishedRecs}
+use Rattle.route.specs.declared.legs.Bearing.{Bearing}
+use Rattle.route.specs.declared.legs.Leg.the-variants.{Place, Coordinates, Between, Designator, Unread}
+use Rattle.cursor.specs.declared.texts.Text.{Text}
+use Rattle.route.specs.Parts.{Part}
+use Rattle.route.specs.Legs.{bearing, ranging, routeInformation, bearingRecs, legRecs, Rangings}
+use Rattle.route.proofs.PartLaws.{reads-any, reads-stay, part-none, part-within, part-same, part-then}
+use Rattle.route.proofs.ThenLaws.{times-end}
+
+pub route-size : SizeRow 51
+unfolding lowest highest ends
+route-size = record { listed = omega arith; some = omega arith; ordered = omega arith; most = omega arith }
+
+pub legs-size : SizeRow 56
+unfolding lowest highest ends
+legs-size = record { listed = omega arith; some = omega arith; ordered = omega arith; most = omega arith }
+
+-- behind a stop nothing goes on
+stopped-stops : (c : Cursor) {d : Cursor} (w m : ℕ) → (w ≡ 0 → ⊥) → d ≡ stopped c w m → d .why ≡ 0 → ⊥
+unfolding stopped
+stopped-stops c {d} w m h q z = by (c .why) refl
+  where
+    by : (v : ℕ) → c .why ≡ v → ⊥
+    by zero y = h (rw (q, eq-eqb (c .why) 0 y) at z)
+    by (suc v) y = let n : c .why ≡ 0 → ⊥ = (λ k. omega arith) in n (rw (q, ne-eqb (c .why) 0 n) at z)
+
+takes-any : {f : Fmt} {s : List ℕ} {c d : Cursor} {T : ℕ → List Rec} (U : ℕ → List Rec) → (d .why ≡ 0 → ⊥) → Takes f s c d T → Takes f s c d U
+takes-any U h y = record { took = λ x. reads-any (U (x .0)) h (y .took x) }
+
+-- the place and the bearing are read, and the distance is reached
+pub ranging-stops : {s : List ℕ} {c d e f : Cursor} {T U : ℕ → List Rec} → Takes message.published s c d T → Takes message.degrees s d e U → f ≡ stopped e 6 0 → Rangings s c f
+unfolding flags allRead
+ranging-stops {e = e} x y q =
+    let n = stopped-stops e 6 0 (λ h. omega arith) q in
+    record { reads = λ W. takes-any W n (takes-plain refl refl (fields-must x (fields-must y (fields-last (takes-refuse {T = W} lack 0 (λ h. omega arith) q))))); stops = n }
+
+---------------------------------------------------------------- by the index
+
+abbrev alts : Alts
+alts = message.published ∥ message.latlon ∥ many 2 2 bearing ∥ ranging ∥ message.ia5 101 2 7 ∥ none-left
+
+module _ {s : List ℕ} {c d : Cursor} (g : Got) (p : Pulls s c 3 g) where
+  pub leg-place : (v : Published) → g .v ≡ 0 → Takes message.published s (g .c) d (publishedRecs s v) → Takes routeInformation s c d (legRecs s (Place v))
+  unfolding legRecs readChoice width widthIn encoding.highest count
+  leg-place v z h = takes-index 97 alts 0 _ g p z (λ x u q. refl) h
+
+  pub leg-coordinates : (v : Pair) → g .v ≡ 1 → Takes message.latlon s (g .c) d (pairRecs v) → Takes routeInformation s c d (legRecs s (Coordinates v))
+  unfolding legRecs readChoice width widthIn encoding.highest count
+  leg-coordinates v z h = takes-index 97 alts 1 _ g p z (λ x u q. refl) h
+
+  pub leg-between : {e : Cursor} (v w : Bearing) → g .v ≡ 2 → Takes bearing s (g .c) e (bearingRecs s v) → Takes bearing s e d (bearingRecs s w) → Takes routeInformation s c d (legRecs s (Between v w))
+  unfolding legRecs readChoice width widthIn encoding.highest count
+  leg-between {e} v w z h y =
+      takes-index 97 alts 2 (many 2 2 bearing) g p z (λ x u q. refl)
+      (let t : Takes (many 2 2 bearing) s (g .c) d (λ n. bearingRecs s v n ++ (bearingRecs s w n ++ [])) = takes-times 2 (times-more h (times-more y times-none)) in
+      record { took = λ x. rw (append-nil (bearingRecs s w (x .0))) at (t .took x) })
+
+  pub leg-ranging : g .v ≡ 3 → Rangings s (g .c) d → Takes routeInformation s c d (legRecs s Unread)
+  unfolding readChoice width widthIn encoding.highest count
+  leg-ranging z h = takes-any (legRecs s Unread) (h .stops) (takes-index 97 alts 3 ranging g p z (λ x u q. refl) (h .reads (λ n. [])))
+
+  pub leg-designator : (v : Text) → g .v ≡ 4 → Takes (message.ia5 101 2 7) s (g .c) d (λ n. textRecs 101 n s v) → Takes routeInformation s c d (legRecs s (Designator v))
+  unfolding legRecs readChoice width widthIn encoding.highest count
+  leg-designator v z h = takes-index 97 alts 4 _ g p z (λ x u q. refl) h
+
+  -- any other index is not listed
+  pub leg-unlisted : (g .v ≡ 0 → ⊥) → (g .v ≡ 1 → ⊥) → (g .v ≡ 2 → ⊥) → (g .v ≡ 3 → ⊥) → (g .v ≡ 4 → ⊥) → d ≡ stopped (g .c) 5 1 → Takes routeInformation s c d (legRecs s Unread)
+  unfolding readChoice mark width widthIn encoding.highest count
+  leg-unlisted z₀ z₁ z₂ z₃ z₄ q = takes-unlisted 97 alts g p (λ x u r. go (g .v) x u r z₀ z₁ z₂ z₃ z₄) q
+    where
+      go : (v : ℕ) (x : Ctx) (u r : ℕ) → (v ≡ 0 → ⊥) → (v ≡ 1 → ⊥) → (v ≡ 2 → ⊥) → (v ≡ 3 → ⊥) → (v ≡ 4 → ⊥) → readChoice alts v x (bitOf s) u r ≡ stop bad r [] 1
+      go zero x u r y₀ y₁ y₂ y₃ y₄ = absurd (y₀ refl)
+      go (suc zero) x u r y₀ y₁ y₂ y₃ y₄ = absurd (y₁ refl)
+      go (suc (suc zero)) x u r y₀ y₁ y₂ y₃ y₄ = absurd (y₂ refl)
+      go (suc (suc (suc zero))) x u r y₀ y₁ y₂ y₃ y₄ = absurd (y₃ refl)
+      go (suc (suc (suc (suc zero)))) x u r y₀ y₁ y₂ y₃ y₄ = absurd (y₄ refl)
+      go (suc (suc (suc (suc (suc v))))) x u r y₀ y₁ y₂ y₃ y₄ = refl
+
+-- the record of its place, and the leg
+pub reads-placed : {f : Fmt} {s : List ℕ} {c d : Cursor} {T : ℕ → List Rec} (t i : ℕ) → Takes f s c d T → Reads (λ e p. read (placed t f) (0, i) (bitOf s) e p) s c d ((rec t 0 i 0 ∷ []) ++ T 0)
+unfolding read
+reads-placed {f} {s} {c} t i h = reads-then (λ e p. ok p (rec t 0 i 0 ∷ []) 0) (λ e p. read f (0, i) (bitOf s) e p) (reads-ok (rec t 0 i 0 ∷ []) 0 (marked-nil c)) (h .took (0, i))
+
+---------------------------------------------------------------- the list of them
+
+abbrev pub legsOf : List ℕ → ℕ → ℕ → ℕ → Ans
+legsOf s i e p = times (λ j q. read message.leg (0, j) (bitOf s) e q) 1 i p
+
+module _ {s : List ℕ} {c : Cursor} {n : ℕ} where
+  pub legs-none : {w : List ℕ} → Part 0 (legsOf s 0) s c n w w (record { n = n; c = c })
+  unfolding times
+  legs-none = part-none
+
+  pub legs-more : {w w₁ w₂ : List ℕ} {r t : At} (i : ℕ) → Part (158 * i) (legsOf s i) s c n w w₁ r → Part 158 (λ e p. read message.leg (0, i + 1) (bitOf s) e p) s (r .c) (r .n) w₁ w₂ t
+      → Part (158 * (i + 1)) (legsOf s (i + 1)) s c n w w₂ t
+  legs-more i x y =
+      part-within (part-same (part-then x y) (legsOf s (i + 1))
+      (λ z. sym (ap (λ (k : ℕ). legsOf s k (c .end) (c .at)) (add-one i) ∙ times-end (λ j q. read message.leg (0, j) (bitOf s) (c .end) q) 1 i (c .at) ∙ ap (λ (k : ℕ). then (legsOf s i (c .end) (c .at)) (λ p. read message.leg (0, k) (bitOf s) (c .end) p)) (add-comm 1 i))))
+      (158 * (i + 1)) (omega arith)
+
+-- a size, and a part for each
+part-sized : {b k : ℕ} (K : ℕ → ℕ → ℕ → Ans) {s : List ℕ} {c : Cursor} {g : Got} {n : ℕ} {w w′ : List ℕ} {r : At} → Sized k s c g → Part b (λ e p. K (g .v) e p) s (g .c) n w w′ r
+    → Part b (λ e p. sized (bitOf s) e p (lowest k) (highest k) (λ m q. K m e q)) s c n w w′ r
+part-sized {k = k} K {s} {c} {g} z x =
+    let alone : Reads (λ e p. sized (bitOf s) e p (lowest k) (highest k) (λ m q. ok q [] 0)) s c (g .c) [] = z .size (λ m e p. ok p [] 0) (reads-ok [] 0 (marked-nil (g .c))) in
+    record {
+      recs = x .recs;
+      reads = z .size K (x .reads);
+      quiet = λ i h. (let q : g .c ≡ c = reads-stay alone i h in x .quiet (rw q i) (rw q h));
+      told = x .told;
+    }
+
+pub legs-all : {s : List ℕ} {c : Cursor} {g : Got} {n i : ℕ} {w w′ : List ℕ} {r : At} → Sized 56 s c g → i ≡ g .v → Part (158 * i) (legsOf s i) s (g .c) n w w′ r
+    → Part 80896 (λ e p. read (many 1 128 message.leg) (0, 0) (bitOf s) e p) s c n w w′ r
+unfolding read lowest highest ends
+legs-all {s} z q x = part-within (part-sized (legsOf s) z (rw q at x)) 80896 (omega (arith, z .few))

@@ -1,0 +1,4 @@
+pub mod Parts
+pub mod Legs
+pub mod Clearance
+pub mod Constrained
