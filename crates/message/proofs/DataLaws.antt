@@ -16,15 +16,37 @@ use Rattle.cursor.specs.declared.place.Got.{Got}
 use Rattle.cursor.specs.Numbers.{lowest, highest}
 use Rattle.cursor.specs.Place.{Inside, Opens}
 use Rattle.cursor.specs.Ranges.{ends}
-use Rattle.cursor.specs.Texts.{Sized}
+use Rattle.cursor.specs.Texts.{SizeRow, Sized}
+use Rattle.cursor.proofs.Laws.{reads-ok, marked-nil}
 use Rattle.cursor.proofs.FormatLaws.{allRead, opened-inside, opened-bit, last-bit}
 use Rattle.records.proofs.Telling.{told-then}
 use Rattle.runs.specs.declared.At.{At}
 use Rattle.runs.specs.Runs.{Ran, Runs}
-use Rattle.runs.proofs.RunLaws.{ran-inside, ran-back, ran-must, ran-last, ran-may, ran-last-may, ran-note, ran-opened}
+use Rattle.runs.proofs.RunLaws.{runs-silent, runs-within, runs-clear, runs-set, ran-inside, ran-back, ran-must, ran-last, ran-may, ran-last-may, ran-note, ran-opened}
 use Rattle.runs.proofs.SizeLaws.{runs-sized}
 use Rattle.message.specs.Fields.{numberField, maybeNumberField, dateTimeField, acknowledgmentField}
 use Rattle.message.specs.Elements.{elementFormat, elementsAt, constrainedAt, dataAt, messageAt}
+
+pub elements-size : SizeRow 54
+unfolding lowest highest ends
+elements-size = record { listed = omega arith; some = omega arith; ordered = omega arith; most = omega arith }
+
+---------------------------------------------------------------- the data
+
+abbrev absent : ℕ → ℕ → Ans
+absent u p = ok p [] 0
+
+abbrev there : List ℕ → ℕ → ℕ → Ans
+there s u p = read constrainedData (0, 0) (bitOf s) u p
+
+module _ (has : ℕ) {s : List ℕ} {c : Cursor} {n : ℕ} {w : List ℕ} where
+  pub constrained-none : has ≡ 0 → Runs 162834 (constrainedAt has s) s c n w w (record { n = n; c = c })
+  unfolding constrainedAt
+  constrained-none z = runs-clear absent (there s) has z (runs-within 162834 absent (omega arith) (runs-silent absent (reads-ok [] 0 (marked-nil c))))
+
+  pub constrained-some : {w′ : List ℕ} {r : At} → (has ≡ 0 → ⊥) → Runs 162834 (there s) s c n w w′ r → Runs 162834 (constrainedAt has s) s c n w w′ r
+  unfolding constrainedAt
+  constrained-some z x = runs-set absent (there s) has z x
 
 -- the elements behind their count
 module _ (table : List ℕ) {s : List ℕ} {c : Cursor} {g z : Got} {n : ℕ} {w : List ℕ} (opens : Opens s c 1 g) (size : Sized 54 s (g .c) z) where
@@ -48,6 +70,8 @@ module _ (table : List ℕ) {s : List ℕ} {c : Cursor} {g z : Got} {n : ℕ} {w
             (ran-must (0, 0) s elements (constrainedData ⨾? end) (c .at) (elements-firm table) run (ran-last-may (0, 0) s constrainedData (c .at) (g .v % 2) bit (y .ran i₂)));
         told = told-then (all .told) (y .told);
       }
+
+---------------------------------------------------------------- the message
 
 module _ (table : List ℕ) {s : List ℕ} {c : Cursor} {g : Got} {n : ℕ} {w w₁ w₂ w₃ w₄ w₅ : List ℕ} {r₁ r₂ r₃ r₄ r₅ : At} {b : ℕ} (opens : Opens s c 2 g) where
   pub message-read : Runs 1 (numberField 6 9 s) s (g .c) n w w₁ r₁ → Runs 1 (maybeNumberField (g .v / 2 % 2) 6 10 s) s (r₁ .c) (r₁ .n) w₁ w₂ r₂ → Runs 6 (dateTimeField s) s (r₂ .c) (r₂ .n) w₂ w₃ r₃

@@ -2,7 +2,7 @@
 use mathlib.Core.Path.{_≡_, refl, sym, ap, _∙_}
 use mathlib.Core.Bool.{true, false}
 use mathlib.Core.List.{List, [], _∷_}
-use Prim.Native.Nat.{ℕ, zero, suc, _+_, _-_, _≤_, _<_}
+use Prim.Native.Nat.{ℕ, zero, suc, _+_, _-_, _*_, _≤_, _<_}
 use native.Mathlib.Omega.{arith}
 use lib.ListN.{length, getD}
 use Rattle.x691.specs.Bits.{bitOf}
@@ -21,7 +21,7 @@ use Rattle.records.specs.Told.{Told}
 use Rattle.records.proofs.Telling.{told-none}
 use Rattle.runs.specs.declared.At.{At}
 use Rattle.runs.specs.Runs.{Runs}
-use Rattle.runs.proofs.RunLaws.{runs-then, runs-same, runs-told, runs-untold, runs-stayed, runs-silent, runs-pull, dropped, led-lax, led-lax-lack, ran-lax}
+use Rattle.runs.proofs.RunLaws.{runs-then, runs-same, runs-told, runs-untold, runs-stayed, runs-silent, runs-within, runs-pull, dropped, led-lax, led-lax-lack, ran-lax}
 use Rattle.arguments.specs.Arguments.{argumentBody}
 use Rattle.message.specs.Elements.{argumentAt, elementFormat, elementAt, elementsAt}
 
@@ -111,10 +111,14 @@ module _ (table : List ℕ) (i : ℕ) {s : List ℕ} {c : Cursor} {b : ℕ} {g :
 ---------------------------------------------------------------- the walk
 
 module _ (table : List ℕ) (i : ℕ) {s : List ℕ} {c : Cursor} {n : ℕ} {w : List ℕ} where
-  pub walk-none : Runs 0 (elementsAt table i 0 s) s c n w w (record { n = n; c = c })
+  pub walk-none : (k : ℕ) → k ≡ 0 → Runs (k * 143) (elementsAt table i k s) s c n w w (record { n = n; c = c })
   unfolding elementsAt times
-  walk-none = runs-silent (elementsAt table i 0 s) (reads-ok [] 0 (marked-nil c))
+  walk-none k z = rw z (runs-silent (elementsAt table i 0 s) (reads-ok [] 0 (marked-nil c)))
 
-  pub walk-more : (k : ℕ) {a b : ℕ} {w₁ w₂ : List ℕ} {r t : At} → Runs a (elementAt table i s) s c n w w₁ r → Runs b (elementsAt table (suc i) k s) s (r .c) (r .n) w₁ w₂ t → Runs (a + b) (elementsAt table i (suc k) s) s c n w w₂ t
+  pub walk-more : (k : ℕ) {w₁ w₂ : List ℕ} {r t : At} → (k ≡ 0 → ⊥) → Runs 143 (elementAt table i s) s c n w w₁ r → Runs ((k - 1) * 143) (elementsAt table (i + 1) (k - 1) s) s (r .c) (r .n) w₁ w₂ t → Runs (k * 143) (elementsAt table i k s) s c n w w₂ t
   unfolding elementsAt elementAt times firm
-  walk-more k x y = runs-then (elementAt table i s) (elementsAt table (suc i) k s) (λ u p. firm-read (bitOf s) (elementFormat table) (0, i) u p (elements-firm table)) x y
+  walk-more zero h x y = absurd (h refl)
+  walk-more (suc k) h x y =
+      let e : i + 1 ≡ suc i = omega arith in
+      let f : suc k - 1 ≡ k = omega arith in
+      runs-within (suc k * 143) _ (omega arith) (runs-then (elementAt table i s) (elementsAt table (suc i) k s) (λ u p. firm-read (bitOf s) (elementFormat table) (0, i) u p (elements-firm table)) x (rw (e, f) at y))

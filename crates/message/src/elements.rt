@@ -1,7 +1,7 @@
 // The element walk: an index into the lent table, then the argument that its byte names. An argument that cannot be read leaves its element without fields and stops the walk.
-ghost use Prim.Native.Nat.{_^_, _≤_, _<_};
+ghost use Prim.Native.Nat.{_+_, _*_, _^_, _≤_, _<_};
 ghost use lib.ListN.{length};
-ghost use Rattle.message.specs.Elements.{argumentAt, elementAt};
+ghost use Rattle.message.specs.Elements.{argumentAt, elementAt, elementsAt};
 ghost use Rattle.runs.specs.Runs.{Runs};
 use arguments::read_argument;
 use arguments::tell_argument;
@@ -64,4 +64,16 @@ pub fn read_element(s: &[u8], words: &mut [u64], x: At, table: &[u8], i: u64) ->
     }
     let d = stop(c, 5, 1);
     At { n: n, c: d }
+}
+
+// The elements that are left, from number i on. Behind one that was given up the others are not read.
+pub fn read_elements(s: &[u8], words: &mut [u64], x: At, table: &[u8], i: u64, left: u64) -> At
+    requires { ⌜ (x .n + left * 143 < 2 ^ 25) × (i + left < 2 ^ 32) × (1 ≤ length (now table)) × (length (now table) ≤ 256) ⌝ }
+    ensures { λ r. ⌜ Runs (left * 143) (elementsAt (now (table .entry)) i left (now (s .entry))) (now (s .entry)) (x .c) (x .n) (now (words .entry)) (now (words .exit)) r ⌝ }
+{
+    if left == 0 {
+        return x;
+    }
+    let y = read_element(s, words, x, table, i);
+    read_elements(s, words, y, table, i + 1, left - 1)
 }

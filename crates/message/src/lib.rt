@@ -2,3 +2,4 @@
 pub mod times; // times.rt: a date and time
 pub mod fields; // fields.rt: numbers that are read and told at once
 pub mod elements; // elements.rt: the element walk
+pub mod data; // data.rt: the whole message

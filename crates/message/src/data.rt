@@ -1,0 +1,56 @@
+// The message: its header, its elements, and the constrained data behind them.
+ghost use Prim.Native.Nat.{_^_, _≤_, _<_};
+ghost use lib.ListN.{length};
+ghost use Rattle.message.specs.Elements.{constrainedAt, dataAt, messageAt};
+ghost use Rattle.runs.specs.Runs.{Runs};
+use super::elements::read_elements;
+use super::fields::acknowledgment_field;
+use super::fields::date_time_field;
+use super::fields::maybe_number_field;
+use super::fields::number_field;
+use cursor::place::Cursor;
+use cursor::place::presence;
+use cursor::ranges::ELEMENTS;
+use cursor::ranges::MSG_ID;
+use cursor::texts::size;
+use route::constrained::read_constrained;
+use runs::At;
+
+fn maybe_constrained(s: &[u8], words: &mut [u64], x: At, has: u64) -> At
+    requires { ⌜ x .n < 2 ^ 24 ⌝ }
+    ensures { λ r. ⌜ Runs 162834 (constrainedAt has (now (s .entry))) (now (s .entry)) (x .c) (x .n) (now (words .entry)) (now (words .exit)) r ⌝ }
+{
+    if has == 0 {
+        return x;
+    }
+    let n = x.n;
+    read_constrained(s, words, n, x.c)
+}
+
+// The elements, and the constrained data if it is there.
+pub fn read_data(s: &[u8], words: &mut [u64], n: usize, c: Cursor, table: &[u8]) -> At
+    requires { ⌜ (n < 2 ^ 23) × (1 ≤ length (now table)) × (length (now table) ≤ 256) ⌝ }
+    ensures { λ r. ⌜ Runs 236050 (dataAt (now (table .entry)) (now (s .entry))) (now (s .entry)) c n (now (words .entry)) (now (words .exit)) r ⌝ }
+{
+    let has = presence(s, c, 1);
+    let count = size(s, has.c, ELEMENTS);
+    let d = count.c;
+    let first = At { n: n, c: d };
+    let y = read_elements(s, words, first, table, 1, count.v);
+    maybe_constrained(s, words, y, has.v % 2)
+}
+
+pub fn read_message(s: &[u8], words: &mut [u64], n: usize, c: Cursor, table: &[u8]) -> At
+    requires { ⌜ (n < 2 ^ 22) × (1 ≤ length (now table)) × (length (now table) ≤ 256) ⌝ }
+    ensures { λ r. ⌜ Runs 236059 (messageAt (now (table .entry)) (now (s .entry))) (now (s .entry)) c n (now (words .entry)) (now (words .exit)) r ⌝ }
+{
+    let has = presence(s, c, 2);
+    let d = has.c;
+    let first = At { n: n, c: d };
+    let id = number_field(s, words, first, MSG_ID, 9);
+    let reference = maybe_number_field(s, words, id, has.v / 2 % 2, MSG_ID, 10);
+    let time = date_time_field(s, words, reference);
+    let x = acknowledgment_field(s, words, time, has.v % 2);
+    let m = x.n;
+    read_data(s, words, m, x.c, table)
+}
