@@ -39,13 +39,13 @@ module _ (has row t : ℕ) {s : List ℕ} {c : Cursor} {n : ℕ} {w : List ℕ} 
   maybe-number-some z x = runs-set (λ e p. ok p [] 0) (numberField row t s) has z x
 
 module _ {s : List ℕ} {c : Cursor} {g : DateTimeAt} (h : DateTimes s c g) where
-  pub date-time-told : {n m : ℕ} {w w′ : List ℕ} → g .c .why ≡ 0 → Told 6 w w′ n m (dateTimeRecs (g .time)) → Runs 6 (dateTimeField s) s c n w w′ (record { n = m; c = g .c })
+  pub date-time-told : {n m : ℕ} {w w′ : List ℕ} → g .c .why ≡ 0 → Told 6 w w′ n m (dateTimeRecs (g .time) 0) → Runs 6 (dateTimeField s) s c n w w′ (record { n = m; c = g .c })
   unfolding dateTimeField
-  date-time-told z y = runs-told (dateTimeField s) (h .reads) z y
+  date-time-told z y = runs-told (dateTimeField s) (h .takes .took (0, 0)) z y
 
   pub date-time-untold : {n : ℕ} {w : List ℕ} → (g .c .why ≡ 0 → ⊥) → Runs 6 (dateTimeField s) s c n w w (record { n = n; c = g .c })
   unfolding dateTimeField
-  date-time-untold z = runs-within 6 (dateTimeField s) (omega arith) (runs-untold (dateTimeField s) (h .reads) z)
+  date-time-untold z = runs-within 6 (dateTimeField s) (omega arith) (runs-untold (dateTimeField s) (h .takes .took (0, 0)) z)
 
 abbrev absent : ℕ → ℕ → Ans
 absent e p = ok p (rec 17 0 1 0 ∷ []) 0

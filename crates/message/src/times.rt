@@ -46,9 +46,10 @@ pub fn read_date_time(s: &[u8], c: Cursor) -> DateTimeAt
     DateTimeAt { time: time, c: end }
 }
 
+// It stands outside the elements.
 pub fn tell_date_time(words: &mut [u64], n: usize, x: DateTime) -> usize
     requires { ⌜ n < 2 ^ 31 ⌝ }
-    ensures { λ m. ⌜ Told 6 (now (words .entry)) (now (words .exit)) n m (dateTimeRecs x) ⌝ }
+    ensures { λ m. ⌜ Told 6 (now (words .entry)) (now (words .exit)) n m (dateTimeRecs x 0) ⌝ }
 {
     let a = emit(words, n, 11, 0, x.year, 0);
     let b = emit(words, a, 12, 0, x.month, 0);

@@ -1,1 +1,2 @@
 pub mod IntegrityLaws
+pub mod StringLaws

@@ -1,133 +1,22 @@
--- A part that may be dropped: it is run dry first, and again on the words unless it failed.
-use mathlib.Core.Path.{_≡_, refl, sym, ap, _∙_}
+-- A clearance that may be dropped: it was run dry first, and failed.
+use mathlib.Core.Path.{_≡_, refl}
 use mathlib.Core.Bool.{Bool, true, false}
 use mathlib.Core.List.{List, [], _++_}
-use Prim.Native.Nat.{ℕ, _+_, _≤_}
+use Prim.Native.Nat.{ℕ, _≤_}
 use native.Mathlib.Omega.{arith}
 use lib.Dec.{leb}
 use borrow.Author.Tests.{leb-true, leb-false}
-use Rattle.atn.specs.Format.{Why, out, bad, lack, quit}
-use Rattle.atn.specs.Reading.{Rec, Ans, ok, past, stop, or, mark, laxly, giveUp}
-use Rattle.atn.proofs.Marks.{or-assoc, or-commutes}
+use Rattle.atn.specs.Reading.{Ans, laxly}
 use Rattle.cursor.specs.declared.place.Cursor.{Cursor}
-use Rattle.cursor.specs.Place.{put}
-use Rattle.records.proofs.Telling.{dry-dropped, dry-kept}
 use Rattle.runs.specs.declared.At.{At}
-use Rattle.runs.specs.Runs.{given, Ran, stayed, went, passed, gaveUp, failed, Runs}
-use Rattle.runs.proofs.RunLaws.{dropped}
+use Rattle.runs.specs.Runs.{Runs}
+use Rattle.runs.proofs.AttemptLaws.{tried-dropped, tried-lacks}
 use Rattle.route.specs.Constrained.{Excused}
 
----------------------------------------------------------------- the cursor behind a reading is the answer's
-
-abbrev reason : Why → ℕ
-reason out = 4
-reason bad = 5
-reason lack = 6
-reason (quit o j t) = given j
-
-abbrev more : Why → ℕ → ℕ
-more out m = m
-more bad m = m
-more lack m = m
-more (quit o j t) m = or (mark t) m
-
-abbrev after : Cursor → Ans → Cursor
-after c (ok p R m) = put c p 0 (or (c .marks) m)
-after c (past p R m) = put c p 7 (or (c .marks) m)
-after c (stop w p R m) = put c p (reason w) (or (c .marks) (more w m))
-
-ran-after : {k : ℕ → ℕ → Ans} {c d : Cursor} {R : List Rec} → c .why ≡ 0 → Ran k c d R → d ≡ after c (k (c .end) (c .at))
-ran-after y (stayed h q r) = absurd (h y)
-ran-after y (went p m z a l q) = rw a q
-ran-after y (passed p m z a l q) = rw a q
-ran-after y (gaveUp o j t p m z a l q) = rw a q
-ran-after y (failed out p m S n z a l q) = rw a q
-ran-after y (failed bad p m S n z a l q) = rw a q
-ran-after y (failed lack p m S n z a l q) = rw a q
-ran-after y (failed (quit o j t) p m S n z a l q) = absurd (n refl)
-
--- so any two runs of one reading end alike
-ran-alike : {k : ℕ → ℕ → Ans} {c d e : Cursor} {R S : List Rec} → c .why ≡ 0 → Ran k c d R → Ran k c e S → d ≡ e
-ran-alike z x y = ran-after z x ∙ sym (ran-after z y)
-
----------------------------------------------------------------- a part whose failure gives it up
-
-module _ {k : ℕ → ℕ → Ans} {c d : Cursor} {R : List Rec} (t : ℕ) (j : Bool) where
-  -- neither ran out nor badly formed: it stays what it is
-  pub lax-kept : Ran k c d R → (d .why ≡ 4 → ⊥) → (d .why ≡ 5 → ⊥) → Ran (λ e p. laxly t j (k e p)) c d R
-  unfolding laxly giveUp
-  lax-kept (stayed h q r) n₄ n₅ = stayed h q r
-  lax-kept (went p m z a l q) n₄ n₅ = went p m z (rw a) l q
-  lax-kept (passed p m z a l q) n₄ n₅ = passed p m z (rw a) l q
-  lax-kept (gaveUp o i v p m z a l q) n₄ n₅ = gaveUp o i v p m z (rw a) l q
-  lax-kept (failed out p m S n z a l q) n₄ n₅ = absurd (n₄ (rw q refl))
-  lax-kept (failed bad p m S n z a l q) n₄ n₅ = absurd (n₅ (rw q refl))
-  lax-kept (failed lack p m S n z a l q) n₄ n₅ = failed lack p m S n z (rw a) l q
-  lax-kept (failed (quit o i v) p m S n z a l q) n₄ n₅ = absurd (n refl)
-
-  -- either of them: it is given up, and nothing is told
-  pub lax-dropped : c .why ≡ 0 → Ran k c d R → 4 ≤ d .why → d .why ≤ 5 → Ran (λ e p. laxly t j (k e p)) c (dropped d j t) []
-  unfolding laxly giveUp
-  lax-dropped y (stayed h q r) b₄ b₅ = absurd (h y)
-  lax-dropped y (went p m z a l q) b₄ b₅ = absurd (let x : 4 ≤ 0 = rw q at b₄ in omega arith)
-  lax-dropped y (passed p m z a l q) b₄ b₅ = absurd (let x : 7 ≤ 5 = rw q at b₅ in omega arith)
-  lax-dropped y (gaveUp o true v p m z a l q) b₄ b₅ = absurd (let x : 9 ≤ 5 = rw q at b₅ in omega arith)
-  lax-dropped y (gaveUp o false v p m z a l q) b₄ b₅ = absurd (let x : 8 ≤ 5 = rw q at b₅ in omega arith)
-  lax-dropped y (failed out p m S n z a l q) b₄ b₅ = gaveUp true j t p m z (rw a) l (rw q (ap (put c p (given j)) (or-assoc (c .marks) m (mark t) ∙ ap (or (c .marks)) (or-commutes m (mark t)))))
-  lax-dropped y (failed bad p m S n z a l q) b₄ b₅ = gaveUp false j t p m z (rw a) l (rw q (ap (put c p (given j)) (or-assoc (c .marks) m (mark t) ∙ ap (or (c .marks)) (or-commutes m (mark t)))))
-  lax-dropped y (failed lack p m S n z a l q) b₄ b₅ = absurd (let x : 6 ≤ 5 = rw q at b₅ in omega arith)
-  lax-dropped y (failed (quit o i v) p m S n z a l q) b₄ b₅ = absurd (n refl)
-
-  -- an unsupplied item is said, and nothing need be told
-  pub lax-lack : c .why ≡ 0 → Ran k c d R → d .why ≡ 6 → Ran (λ e p. laxly t j (k e p)) c d []
-  unfolding laxly giveUp
-  lax-lack y (stayed h q r) e = absurd (h y)
-  lax-lack y (went p m z a l q) e = absurd (let x : 0 ≡ 6 = rw q at e in omega arith)
-  lax-lack y (passed p m z a l q) e = absurd (let x : 7 ≡ 6 = rw q at e in omega arith)
-  lax-lack y (gaveUp o true v p m z a l q) e = absurd (let x : 9 ≡ 6 = rw q at e in omega arith)
-  lax-lack y (gaveUp o false v p m z a l q) e = absurd (let x : 8 ≡ 6 = rw q at e in omega arith)
-  lax-lack y (failed out p m S n z a l q) e = absurd (let x : 4 ≡ 6 = rw q at e in omega arith)
-  lax-lack y (failed bad p m S n z a l q) e = absurd (let x : 5 ≡ 6 = rw q at e in omega arith)
-  lax-lack y (failed lack p m S n z a l q) e = failed lack p m S n z (rw a) l q
-  lax-lack y (failed (quit o i v) p m S n z a l q) e = absurd (n refl)
-
-given-high : (j : Bool) → given j ≤ 5 → ⊥
-given-high true h = omega arith
-given-high false h = omega arith
-
--- it never ends as ran out or badly formed
-lax-never : (t : ℕ) (j : Bool) (c d : Cursor) (a : Ans) → d ≡ after c (laxly t j a) → 4 ≤ d .why → d .why ≤ 5 → ⊥
-unfolding laxly giveUp
-lax-never t j c d (ok p S m) q l u = let x : 4 ≤ 0 = rw q at l in omega arith
-lax-never t j c d (past p S m) q l u = let x : 7 ≤ 5 = rw q at u in omega arith
-lax-never t j c d (stop out p S m) q l u = given-high j (rw q at u)
-lax-never t j c d (stop bad p S m) q l u = given-high j (rw q at u)
-lax-never t j c d (stop lack p S m) q l u = let x : 6 ≤ 5 = rw q at u in omega arith
-lax-never t j c d (stop (quit o i v) p S m) q l u = given-high i (rw q at u)
-
-pub lax-ends : (k : ℕ → ℕ → Ans) {c d : Cursor} {R : List Rec} (t : ℕ) (j : Bool) → c .why ≡ 0 → Ran (λ e p. laxly t j (k e p)) c d R → (d .why ≡ 4 → ⊥) × (d .why ≡ 5 → ⊥)
-lax-ends k {c} {d} t j z r =
-    let q = ran-after z r in
-    (λ e. lax-never t j c d (k (c .end) (c .at)) q (omega arith) (omega arith), λ e. lax-never t j c d (k (c .end) (c .at)) q (omega arith) (omega arith))
-
----------------------------------------------------------------- on the words
-
-module _ {b : ℕ} {k : ℕ → ℕ → Ans} {s : List ℕ} {c : Cursor} {n : ℕ} {e w : List ℕ} {r : At} (z : c .why ≡ 0) (dry : Runs b k s c n [] e r) where
-  -- it failed: nothing is told
-  pub tried-excused : {f : Cursor} → 4 ≤ r .c .why → r .c .why ≤ 6 → Excused (r .c) f → Runs 0 (λ e p. laxly 7 true (k e p)) s c n w (e ++ w) (record { n = n; c = f })
-  tried-excused {f} l u x = record { recs = []; ran = λ i. by (leb (r .c .why) 5) refl (dry .ran i); told = dry-dropped w (dry .told) }
-    where
-      by : (t : Bool) → leb (r .c .why) 5 ≡ t → Ran k c (r .c) (dry .recs) → Ran (λ e p. laxly 7 true (k e p)) c f []
-      by true q y = let h = leb-true (r .c .why) 5 q in rw (x .given l h) (lax-dropped 7 true z y l h)
-      by false q y = let h = leb-false (r .c .why) 5 q in rw (x .kept (λ _ o. omega arith)) (lax-lack 7 true z y (omega arith))
-
-  -- it did not: it is run again
-  pub tried-kept : {w′ : List ℕ} {f : At} → (4 ≤ r .c .why → r .c .why ≤ 6 → ⊥) → Runs b k s c n (e ++ w) w′ f → Runs b (λ e p. laxly 7 true (k e p)) s c n w w′ f
-  tried-kept {f = f} h x =
-      record {
-        recs = x .recs;
-        ran = λ i. (
-            let q : f .c ≡ r .c = ran-alike z (x .ran i) (dry .ran i) in
-            lax-kept 7 true (x .ran i) (λ y. h (omega (arith, ap (λ (o : Cursor). o .why) q)) (omega (arith, ap (λ (o : Cursor). o .why) q))) (λ y. h (omega (arith, ap (λ (o : Cursor). o .why) q)) (omega (arith, ap (λ (o : Cursor). o .why) q))));
-        told = dry-kept (dry .told) (x .told);
-      }
+pub tried-excused : {b : ℕ} {k : ℕ → ℕ → Ans} {s : List ℕ} {c f : Cursor} {n : ℕ} {e w : List ℕ} {r : At} → c .why ≡ 0 → Runs b k s c n [] e r → 4 ≤ r .c .why → r .c .why ≤ 6 → Excused (r .c) f
+    → Runs 0 (λ u p. laxly 7 true (k u p)) s c n w (e ++ w) (record { n = n; c = f })
+tried-excused {k = k} {s} {c} {f} {n} {e} {w} {r} z dry l u x = by (leb (r .c .why) 5) refl
+  where
+    by : (t : Bool) → leb (r .c .why) 5 ≡ t → Runs 0 (λ u p. laxly 7 true (k u p)) s c n w (e ++ w) (record { n = n; c = f })
+    by true q = let h = leb-true (r .c .why) 5 q in rw (x .given l h) (tried-dropped 7 true z dry l h)
+    by false q = let h = leb-false (r .c .why) 5 q in rw (x .kept (λ _ o. omega arith)) (tried-lacks 7 true z dry (omega arith))

@@ -22,7 +22,7 @@ use Rattle.route.specs.Constrained.{Excused, countThen, Counts, attempt,
 use Rattle.route.proofs.ThenLaws.{then-end, then-same}
 use Rattle.route.proofs.PartLaws.{part-none, part-runs}
 use Rattle.route.proofs.ClearanceLaws.{clearance-beyond, attempt-end}
-use Rattle.route.proofs.AttemptLaws.{lax-kept, lax-dropped, lax-ends}
+use Rattle.runs.proofs.AttemptLaws.{lax-kept, lax-dropped, lax-ends}
 use Rattle.route.proofs.CountLaws.{seven, ran-next, frame, frame-count}
 
 ---------------------------------------------------------------- clearances in a row

@@ -1,4 +1,5 @@
 pub mod RunLaws
+pub mod AttemptLaws
 pub mod InnerLaws
 pub mod WindowLaws
 pub mod SizeLaws

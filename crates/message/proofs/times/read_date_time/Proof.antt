@@ -11,11 +11,10 @@ returns : tie.Need-returns
 unfolding lowest highest ends flags allRead
 returns c =
     record {
-      reads =
+      takes =
           takes-plain refl refl
           (fields-must (takes-plain refl refl (fields-must (c .before .before .before .before .before .before .ranged .ensures .number 11) (fields-must (c .before .before .before .before .before .ranged2 .ensures .number 12) (fields-last (c .before .before .before .before .ranged3 .ensures .number 13)))))
-          (fields-last (takes-plain refl refl (fields-must (c .before .before .before .ranged4 .ensures .number 14) (fields-must (c .before .before .ranged5 .ensures .number 15) (fields-last (c .before .ranged6 .ensures .number 16)))))))
-          .took (0, 0);
+          (fields-last (takes-plain refl refl (fields-must (c .before .before .before .ranged4 .ensures .number 14) (fields-must (c .before .before .ranged5 .ensures .number 15) (fields-last (c .before .ranged6 .ensures .number 16)))))));
     }
 
 pub read-date-time-spec : {M : Type 1} → statement M

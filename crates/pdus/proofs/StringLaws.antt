@@ -1,0 +1,92 @@
+-- What stands in an inner string, read as a part of the frame and closed.
+use mathlib.Core.Path.{_≡_, refl, sym, _∙_}
+use mathlib.Core.Bool.{Bool, true, false}
+use mathlib.Core.List.{List}
+use Prim.Native.Nat.{ℕ, _+_, _-_, _*_, _/_, _%_, _≤_, _<_}
+use native.Mathlib.Omega.{arith}
+use lib.ListN.{length, take, drop}
+use lib.Dec.{leb, eqb}
+use borrow.Author.Tests.{leb-true, leb-false, eqb-true, eqb-false}
+use Rattle.x691.specs.Bits.{bitOf}
+use Rattle.atn.specs.Format.{inner}
+use Rattle.atn.specs.Reading.{read}
+use Rattle.atn.proofs.Shift.{placeless, placelessFields, placelessChoice}
+use Rattle.atn.proofs.Elements.{elements-placeless, data-placeless}
+use Rattle.cursor.specs.declared.place.Cursor.{Cursor}
+use Rattle.cursor.specs.declared.lengths.Measured.{Measured}
+use Rattle.cursor.specs.Lengths.{Measures, Passes}
+use Rattle.message.specs.Elements.{dataAt, messageAt}
+use Rattle.runs.specs.declared.At.{At}
+use Rattle.runs.specs.Runs.{Runs}
+use Rattle.runs.specs.Windows.{closed, Tells}
+use Rattle.runs.proofs.FrameLaws.{runs-tells}
+use Rattle.runs.proofs.RunLaws.{runs-within}
+use Rattle.runs.proofs.InnerLaws.{inner-lost, inner-read, inner-off}
+use Rattle.pdus.specs.declared.strings.Inner.{Inner}
+use Rattle.pdus.specs.declared.strings.Inner.the-variants.{Lost, Found}
+use Rattle.pdus.specs.Parts.{contents, laxData, contentsAt, innerAt}
+use Rattle.pdus.specs.Strings.{Lacks, Has, Strings}
+
+pub contents-placeless : (carried : Bool) (table : List ℕ) → placeless (contents carried table) ≡ true
+unfolding placeless placelessFields placelessChoice
+contents-placeless true table = data-placeless table
+contents-placeless false table = rw (elements-placeless table) refl
+
+---------------------------------------------------------------- where it stands
+
+pub string-stops : {s : List ℕ} {c d : Cursor} {l : Measured} → Measures s c l → Passes (l .c) (l .count) d → (d .why ≡ 0 → ⊥) → Lacks s c d
+string-stops {l = l} measures passes h = record { length-read = l; measures = measures; passes = passes; off = λ z. absurd (h z) }
+
+module _ {s : List ℕ} {c : Cursor} {l : Measured} (measures : Measures s c l) {t : Bool} where
+  -- places that the frame holds are small
+  pub near : length s ≤ 8192 → t ≡ leb (l .c .at) (length s * 8) → t ≡ true → l .c .at ≤ 65536
+  near h p q = let i = leb-true (l .c .at) (length s * 8) (sym p ∙ q) in omega arith
+
+  pub near-end : length s ≤ 8192 → t ≡ leb (l .c .at + l .count) (length s * 8) → t ≡ true → l .c .at + l .count ≤ 65536
+  near-end h p q = let i = leb-true (l .c .at + l .count) (length s * 8) (sym p ∙ q) in omega arith
+
+  module _ {d : Cursor} (passes : Passes (l .c) (l .count) d) where
+    pub string-begins-behind : t ≡ leb (l .c .at) (length s * 8) → t ≡ false → Lacks s c d
+    string-begins-behind p q = let o = leb-false (l .c .at) (length s * 8) (sym p ∙ q) in record { length-read = l; measures = measures; passes = passes; off = λ _. omega arith }
+
+    pub string-ends-behind : t ≡ leb (l .c .at + l .count) (length s * 8) → t ≡ false → Lacks s c d
+    string-ends-behind p q = record { length-read = l; measures = measures; passes = passes; off = λ _. leb-false (l .c .at + l .count) (length s * 8) (sym p ∙ q) }
+
+    pub string-held : d .why ≡ 0 → t ≡ leb (l .c .at + l .count) (length s * 8) → t ≡ true
+        → Has s c (l .c .at / 8) ((l .c .at + l .count + 7) / 8) (record { at = l .c .at % 8; end = l .c .at % 8 + l .count; why = 0; marks = d .marks }) d
+    string-held z p q =
+        let i = leb-true (l .c .at + l .count) (length s * 8) (sym p ∙ q) in
+        record { length-read = l; measures = measures; passes = passes; goes = z; first-byte = refl; last-byte = refl; bits = refl; ordered = omega arith; held = omega arith }
+
+module _ {s : List ℕ} {c d : Cursor} {r : Inner} where
+  pub lost : r ≡ Lost d → Strings s c r → Lacks s c d
+  lost q x = rw q at x
+
+  pub found : {from to : ℕ} {window : Cursor} → r ≡ Found from to window d → Strings s c r → Has s c from to window d
+  found q x = rw q at x
+
+---------------------------------------------------------------- what is read in it
+
+module _ (carried : Bool) (table : List ℕ) {b : ℕ} {s : List ℕ} {c : Cursor} {n : ℕ} {w w′ : List ℕ} {r : At} where
+  pub contents-data : carried ≡ true → Runs b (laxData table s) s c n w w′ r → Runs b (contentsAt carried table s) s c n w w′ r
+  unfolding contentsAt laxData dataAt read
+  contents-data q x = rw q x
+
+  pub contents-message : carried ≡ false → Runs b (messageAt table s) s c n w w′ r → Runs b (contentsAt carried table s) s c n w w′ r
+  unfolding contentsAt messageAt
+  contents-message q x = rw q x
+
+module _ (carried : Bool) (table : List ℕ) {b : ℕ} {s : List ℕ} {c d : Cursor} {n : ℕ} {w : List ℕ} (goes : c .why ≡ 0) where
+  pub string-lost : Lacks s c d → Runs b (innerAt carried table s) s c n w w (record { n = n; c = d })
+  unfolding innerAt
+  string-lost x = runs-within b (innerAt carried table s) (omega arith) (runs-tells (innerAt carried table s) goes (by (eqb (d .why) 0) refl))
+    where
+      by : (t : Bool) → eqb (d .why) 0 ≡ t → Tells 0 (innerAt carried table s) s c n w w (record { n = n; c = d })
+      by true q = inner-off (contents carried table) (contents-placeless carried table) (x .measures) (x .passes) (eqb-true (d .why) 0 q) (x .off (eqb-true (d .why) 0 q))
+      by false q = inner-lost (contents carried table) (contents-placeless carried table) (x .measures) (x .passes) (eqb-false (d .why) 0 q)
+
+  pub string-read : {from to : ℕ} {window e : Cursor} {w′ : List ℕ} {r : At} → Has s c from to window d
+      → Runs b (contentsAt carried table (take (to - from) (drop from s))) (take (to - from) (drop from s)) window n w w′ r → e ≡ closed d (r .c) → Runs b (innerAt carried table s) s c n w w′ (record { n = r .n; c = e })
+  unfolding innerAt contentsAt
+  string-read h x q =
+      rw q (runs-tells (innerAt carried table s) goes (inner-read (contents carried table) (contents-placeless carried table) (h .measures) (h .passes) (h .goes) (rw (h .first-byte, h .last-byte, h .bits) at x)))
