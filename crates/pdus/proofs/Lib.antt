@@ -1,2 +1,3 @@
 pub mod IntegrityLaws
 pub mod StringLaws
+pub mod ProtectedLaws
