@@ -49,15 +49,15 @@ absent u p = ok p (rec 8 0 1 0 ∷ []) 0
 module _ (has : ℕ) (table : List ℕ) {b : ℕ} {s : List ℕ} {c : Cursor} {n : ℕ} {w : List ℕ} where
   pub part-stuck : has ≡ 0 → (c .why ≡ 0 → ⊥) → Runs b (messagePart has table s) s c n w w (record { n = n; c = c })
   unfolding messagePart
-  part-stuck z h = runs-clear absent (innerAt false table s) has z (runs-within b absent (omega arith) (runs-stayed absent h))
+  part-stuck z h = runs-clear absent (innerAt table s) has z (runs-within b absent (omega arith) (runs-stayed absent h))
 
   pub part-absent : {m : ℕ} {w′ : List ℕ} → has ≡ 0 → c .why ≡ 0 → Told b w w′ n m (rec 8 0 1 0 ∷ []) → Runs b (messagePart has table s) s c n w w′ (record { n = m; c = c })
   unfolding messagePart
-  part-absent z h x = runs-clear absent (innerAt false table s) has z (runs-told absent (reads-ok _ 0 (marked-nil c)) h x)
+  part-absent z h x = runs-clear absent (innerAt table s) has z (runs-told absent (reads-ok _ 0 (marked-nil c)) h x)
 
-  pub part-there : {w′ : List ℕ} {r : At} → (has ≡ 0 → ⊥) → Runs b (innerAt false table s) s c n w w′ r → Runs b (messagePart has table s) s c n w w′ r
+  pub part-there : {w′ : List ℕ} {r : At} → (has ≡ 0 → ⊥) → Runs b (innerAt table s) s c n w w′ r → Runs b (messagePart has table s) s c n w w′ r
   unfolding messagePart
-  part-there z x = runs-set absent (innerAt false table s) has z x
+  part-there z x = runs-set absent (innerAt table s) has z x
 
 ---------------------------------------------------------------- all of it
 

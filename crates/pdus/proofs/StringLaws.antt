@@ -4,18 +4,20 @@ use mathlib.Core.Bool.{Bool, true, false}
 use mathlib.Core.List.{List}
 use Prim.Native.Nat.{ℕ, _+_, _-_, _*_, _/_, _%_, _≤_, _<_}
 use native.Mathlib.Omega.{arith}
-use lib.ListN.{length, take, drop}
+use lib.ListN.{length, take, drop, length-take, length-drop}
 use lib.Dec.{leb, eqb}
 use borrow.Author.Tests.{leb-true, leb-false, eqb-true, eqb-false}
 use Rattle.x691.specs.Bits.{bitOf}
-use Rattle.atn.specs.Format.{inner}
+use Rattle.atn.specs.Format.{Fmt, inner}
 use Rattle.atn.specs.Reading.{read}
+use Rattle.atn.specs.Messages.{atcMessage}
 use Rattle.atn.proofs.Shift.{placeless, placelessFields, placelessChoice}
-use Rattle.atn.proofs.Elements.{elements-placeless, data-placeless}
+use Rattle.atn.proofs.Elements.{elements-placeless}
 use Rattle.cursor.specs.declared.place.Cursor.{Cursor}
 use Rattle.cursor.specs.declared.lengths.Measured.{Measured}
 use Rattle.cursor.specs.Lengths.{Measures, Passes}
-use Rattle.message.specs.Elements.{dataAt, messageAt}
+use Rattle.cursor.specs.Place.{Inside}
+use Rattle.message.specs.Elements.{messageAt}
 use Rattle.runs.specs.declared.At.{At}
 use Rattle.runs.specs.Runs.{Runs}
 use Rattle.runs.specs.Windows.{closed, Tells}
@@ -24,13 +26,12 @@ use Rattle.runs.proofs.RunLaws.{runs-within}
 use Rattle.runs.proofs.InnerLaws.{inner-lost, inner-read, inner-off}
 use Rattle.pdus.specs.declared.strings.Inner.{Inner}
 use Rattle.pdus.specs.declared.strings.Inner.the-variants.{Lost, Found}
-use Rattle.pdus.specs.Parts.{contents, laxData, contentsAt, innerAt}
+use Rattle.pdus.specs.Parts.{innerAt}
 use Rattle.pdus.specs.Strings.{Lacks, Has, Strings}
 
-pub contents-placeless : (carried : Bool) (table : List ℕ) → placeless (contents carried table) ≡ true
+message-placeless : (table : List ℕ) → placeless (atcMessage table) ≡ true
 unfolding placeless placelessFields placelessChoice
-contents-placeless true table = data-placeless table
-contents-placeless false table = rw (elements-placeless table) refl
+message-placeless table = rw (elements-placeless table) refl
 
 ---------------------------------------------------------------- where it stands
 
@@ -67,26 +68,38 @@ module _ {s : List ℕ} {c d : Cursor} {r : Inner} where
 
 ---------------------------------------------------------------- what is read in it
 
-module _ (carried : Bool) (table : List ℕ) {b : ℕ} {s : List ℕ} {c : Cursor} {n : ℕ} {w w′ : List ℕ} {r : At} where
-  pub contents-data : carried ≡ true → Runs b (laxData table s) s c n w w′ r → Runs b (contentsAt carried table s) s c n w w′ r
-  unfolding contentsAt laxData dataAt read
-  contents-data q x = rw q x
+-- its bytes, and its window in them
+abbrev pub bytes : List ℕ → ℕ → ℕ → List ℕ
+bytes s from to = take (to - from) (drop from s)
 
-  pub contents-message : carried ≡ false → Runs b (messageAt table s) s c n w w′ r → Runs b (contentsAt carried table s) s c n w w′ r
-  unfolding contentsAt messageAt
-  contents-message q x = rw q x
+module _ {s : List ℕ} {c d window : Cursor} {from to : ℕ} (h : Has s c from to window d) where
+  pub window-goes : window .why ≡ 0
+  window-goes = rw (h .bits) refl
 
-module _ (carried : Bool) (table : List ℕ) {b : ℕ} {s : List ℕ} {c d : Cursor} {n : ℕ} {w : List ℕ} (goes : c .why ≡ 0) where
-  pub string-lost : Lacks s c d → Runs b (innerAt carried table s) s c n w w (record { n = n; c = d })
-  unfolding innerAt
-  string-lost x = runs-within b (innerAt carried table s) (omega arith) (runs-tells (innerAt carried table s) goes (by (eqb (d .why) 0) refl))
+  pub window-inside : Inside (bytes s from to) window
+  window-inside =
+      rw (h .bits) (omega arith, omega (arith, h .ordered, h .held, h .first-byte, h .last-byte, length-take (to - from) (drop from s), length-drop from s))
+
+module _ (f : Fmt) {s : List ℕ} {c d : Cursor} {n : ℕ} {w : List ℕ} (z : placeless f ≡ true) where
+  pub tells-lost : Lacks s c d → Tells 0 (λ u p. read (inner f) (0, 0) (bitOf s) u p) s c n w w (record { n = n; c = d })
+  tells-lost x = by (eqb (d .why) 0) refl
     where
-      by : (t : Bool) → eqb (d .why) 0 ≡ t → Tells 0 (innerAt carried table s) s c n w w (record { n = n; c = d })
-      by true q = inner-off (contents carried table) (contents-placeless carried table) (x .measures) (x .passes) (eqb-true (d .why) 0 q) (x .off (eqb-true (d .why) 0 q))
-      by false q = inner-lost (contents carried table) (contents-placeless carried table) (x .measures) (x .passes) (eqb-false (d .why) 0 q)
+      by : (t : Bool) → eqb (d .why) 0 ≡ t → Tells 0 (λ u p. read (inner f) (0, 0) (bitOf s) u p) s c n w w (record { n = n; c = d })
+      by true q = inner-off f z (x .measures) (x .passes) (eqb-true (d .why) 0 q) (x .off (eqb-true (d .why) 0 q))
+      by false q = inner-lost f z (x .measures) (x .passes) (eqb-false (d .why) 0 q)
 
-  pub string-read : {from to : ℕ} {window e : Cursor} {w′ : List ℕ} {r : At} → Has s c from to window d
-      → Runs b (contentsAt carried table (take (to - from) (drop from s))) (take (to - from) (drop from s)) window n w w′ r → e ≡ closed d (r .c) → Runs b (innerAt carried table s) s c n w w′ (record { n = r .n; c = e })
-  unfolding innerAt contentsAt
-  string-read h x q =
-      rw q (runs-tells (innerAt carried table s) goes (inner-read (contents carried table) (contents-placeless carried table) (h .measures) (h .passes) (h .goes) (rw (h .first-byte, h .last-byte, h .bits) at x)))
+  pub tells-read : {b from to : ℕ} {window : Cursor} {w′ : List ℕ} {r : At} → Has s c from to window d → Runs b (λ u p. read f (0, 0) (bitOf (bytes s from to)) u p) (bytes s from to) window n w w′ r
+      → Tells b (λ u p. read (inner f) (0, 0) (bitOf s) u p) s c n w w′ (record { n = r .n; c = closed d (r .c) })
+  tells-read h x = inner-read f z (h .measures) (h .passes) (h .goes) (rw (h .first-byte, h .last-byte, h .bits) at x)
+
+---------------------------------------------------------------- a message in it
+
+module _ (table : List ℕ) {b : ℕ} {s : List ℕ} {c d : Cursor} {n : ℕ} {w : List ℕ} (goes : c .why ≡ 0) where
+  pub string-lost : Lacks s c d → Runs b (innerAt table s) s c n w w (record { n = n; c = d })
+  unfolding innerAt
+  string-lost x = runs-within b (innerAt table s) (omega arith) (runs-tells (innerAt table s) goes (tells-lost (atcMessage table) (message-placeless table) x))
+
+  pub string-read : {from to : ℕ} {window e : Cursor} {w′ : List ℕ} {r : At} → Has s c from to window d → Runs b (messageAt table (bytes s from to)) (bytes s from to) window n w w′ r → e ≡ closed d (r .c)
+      → Runs b (innerAt table s) s c n w w′ (record { n = r .n; c = e })
+  unfolding innerAt messageAt
+  string-read h x q = rw q (runs-tells (innerAt table s) goes (tells-read (atcMessage table) (message-placeless table) h x))

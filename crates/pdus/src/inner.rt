@@ -1,7 +1,7 @@
 // What stands in inner strings: a message, or the data that a forward message carries. Each is read as a part of the frame, in a window of its own.
 ghost use Prim.Native.Nat.{_≤_, _<_, _^_};
 ghost use lib.ListN.{length};
-ghost use Rattle.pdus.specs.Parts.{laxData, contentsAt, innerAt};
+ghost use Rattle.pdus.specs.Parts.{laxData, innerAt};
 ghost use Rattle.runs.specs.Runs.{Runs};
 use super::strings::Inner;
 use super::strings::find_string;
@@ -12,7 +12,7 @@ use runs::At;
 use runs::windows::close_window;
 
 // Data that may be given up: run on no words, and again on the words unless it failed. An unsupplied item is said all the same.
-fn try_data(s: &[u8], words: &mut [u64], n: usize, c: Cursor, table: &[u8]) -> At
+pub fn try_data(s: &[u8], words: &mut [u64], n: usize, c: Cursor, table: &[u8]) -> At
     requires { ⌜ (n < 2 ^ 22) × (1 ≤ length (now table)) × (length (now table) ≤ 256) ⌝ }
     ensures { λ r. ⌜ Runs 236050 (laxData (now (table .entry)) (now (s .entry))) (now (s .entry)) c n (now (words .entry)) (now (words .exit)) r ⌝ }
 {
@@ -40,34 +40,10 @@ fn try_data(s: &[u8], words: &mut [u64], n: usize, c: Cursor, table: &[u8]) -> A
     }
 }
 
-// What the string carries: data that may be given up, or a message.
-fn read_contents(
-    s: &[u8],
-    words: &mut [u64],
-    n: usize,
-    c: Cursor,
-    table: &[u8],
-    carried: bool,
-) -> At
-    requires { ⌜ (n < 2 ^ 22) × (1 ≤ length (now table)) × (length (now table) ≤ 256) ⌝ }
-    ensures { λ r. ⌜ Runs 236059 (contentsAt carried (now (table .entry)) (now (s .entry))) (now (s .entry)) c n (now (words .entry)) (now (words .exit)) r ⌝ }
-{
-    if carried {
-        return try_data(s, words, n, c, table);
-    }
-    read_message(s, words, n, c, table)
-}
-
-pub fn read_inner(
-    s: &[u8],
-    words: &mut [u64],
-    n: usize,
-    c: Cursor,
-    table: &[u8],
-    carried: bool,
-) -> At
+// A message in its inner string.
+pub fn read_inner(s: &[u8], words: &mut [u64], n: usize, c: Cursor, table: &[u8]) -> At
     requires { ⌜ (length (now s) ≤ 8192) × (n < 2 ^ 22) × (1 ≤ length (now table)) × (length (now table) ≤ 256) ⌝ }
-    ensures { λ r. ⌜ Runs 236059 (innerAt carried (now (table .entry)) (now (s .entry))) (now (s .entry)) c n (now (words .entry)) (now (words .exit)) r ⌝ }
+    ensures { λ r. ⌜ Runs 236059 (innerAt (now (table .entry)) (now (s .entry))) (now (s .entry)) c n (now (words .entry)) (now (words .exit)) r ⌝ }
 {
     if c.why != 0 {
         return At { n: n, c: c };
@@ -75,7 +51,7 @@ pub fn read_inner(
     match find_string(s, c) {
         Inner::Lost(d) => At { n: n, c: d },
         Inner::Found(from, to, window, d) => {
-            let x = read_contents(&s[from..to], words, n, window, table, carried);
+            let x = read_message(&s[from..to], words, n, window, table);
             let m = x.n;
             let e = close_window(d, x.c);
             At { n: m, c: e }

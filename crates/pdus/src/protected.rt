@@ -44,7 +44,7 @@ fn message_part(s: &[u8], words: &mut [u64], n: usize, c: Cursor, has: u64, tabl
         let m = emit(words, n, 8, 0, 1, 0);
         return At { n: m, c: c };
     }
-    read_inner(s, words, n, c, table, false)
+    read_inner(s, words, n, c, table)
 }
 
 // A set extension bit has no reader.
