@@ -1,3 +1,5 @@
 pub mod IntegrityLaws
 pub mod StringLaws
 pub mod ProtectedLaws
+pub mod HeaderLaws
+pub mod ForwardLaws

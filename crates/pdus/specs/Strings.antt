@@ -9,12 +9,15 @@ use Rattle.cursor.specs.Lengths.{Measures, Passes}
 use Rattle.pdus.specs.declared.strings.Inner.{Inner}
 use Rattle.pdus.specs.declared.strings.Inner.the-variants.{Lost, Found}
 
--- the reading has stopped before the string's end; where it has not, the frame does not hold the string, to which no cursor in the frame comes
+-- the reading stops before the string's end; where it would not, the frame does not hold the string, to which no cursor in the frame comes
 pub record Lacks (s : List ℕ) (c d : Cursor) : Type 0 where
   pub length-read : Measured
+  pub behind : Cursor
   pub measures : Measures s c length-read
-  pub passes : Passes (length-read .c) (length-read .count) d
-  pub off : d .why ≡ 0 → length s * 8 < length-read .c .at + length-read .count
+  pub passes : Passes (length-read .c) (length-read .count) behind
+  pub stops : d .why ≡ 0 → ⊥
+  pub same : (behind .why ≡ 0 → ⊥) → d ≡ behind
+  pub off : behind .why ≡ 0 → length s * 8 < length-read .c .at + length-read .count
 
 -- its bits stand in the bytes from..to, where they are the window, and d stands behind them
 pub record Has (s : List ℕ) (c : Cursor) (from to : ℕ) (window d : Cursor) : Type 0 where

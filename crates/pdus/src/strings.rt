@@ -5,6 +5,7 @@ ghost use Rattle.pdus.specs.Strings.{Strings};
 use cursor::lengths::length;
 use cursor::lengths::pass;
 use cursor::place::Cursor;
+use cursor::place::stop;
 use per::room::holds;
 use per::units::Bits;
 
@@ -38,5 +39,6 @@ pub fn find_string(s: &[u8], c: Cursor) -> Inner
             return Inner::Found(at / 8, (at + count + 7) / 8, window, behind);
         }
     }
-    Inner::Lost(behind)
+    // no cursor in the frame comes here
+    Inner::Lost(stop(behind, 4, 0))
 }
