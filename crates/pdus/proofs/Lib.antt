@@ -3,3 +3,4 @@ pub mod StringLaws
 pub mod ProtectedLaws
 pub mod HeaderLaws
 pub mod ForwardLaws
+pub mod PduLaws
