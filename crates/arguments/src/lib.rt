@@ -18,11 +18,11 @@ use small::names::Triple;
 use small::numbers::Code;
 use small::numbers::Runway;
 use small::quantities::Quantity;
-use small::tell::tell_code;
-use small::tell::tell_name;
-use small::tell::tell_quantity;
-use small::tell::tell_runway;
-use small::tell::tell_triple;
+use small::telling::tell_code;
+use small::telling::tell_name;
+use small::telling::tell_quantity;
+use small::telling::tell_runway;
+use small::telling::tell_triple;
 
 mod each; // each.rt: a reader for each argument
 pub mod frequency; // frequency.rt: the records of a frequency

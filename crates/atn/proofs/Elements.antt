@@ -5,9 +5,10 @@ use mathlib.Core.List.{List, [], _∷_}
 use Prim.Native.Nat.{ℕ, zero, suc}
 use lib.ListN.{getD}
 use Rattle.atn.specs.Format.{Fmt, Alts, none-left, _∥_}
-use Rattle.atn.specs.Messages.{arguments, noReader, argumentOf, elements, messageData}
+use Rattle.atn.specs.Messages.{arguments, noReader, argumentOf, elements, messageData, atcMessage}
 use Rattle.atn.proofs.Inverse.{both}
-use Rattle.atn.proofs.Firm.{firm, firmFields, firmChoice}
+use Rattle.atn.proofs.Tame.{keepsStop, tame, tameFields, tameChoice}
+use Rattle.atn.proofs.Firm.{firm, firmChoice}
 use Rattle.atn.proofs.Shift.{placeless, placelessFields, placelessChoice}
 
 unfoldable every : (Fmt → Bool) → List Fmt → Bool
@@ -21,7 +22,7 @@ every-get p (f ∷ fs) d zero h g = both (p f) (every p fs) h .0
 every-get p (f ∷ fs) d (suc k) h g = every-get p fs d k (both (p f) (every p fs) h .1) g
 
 argument-firm : (k : ℕ) → firm (argumentOf k) ≡ true
-unfolding argumentOf firm firmFields firmChoice every
+unfolding argumentOf tame tameFields tameChoice keepsStop every
 argument-firm zero = refl
 argument-firm (suc k) = every-get firm arguments noReader k refl refl
 
@@ -31,7 +32,7 @@ argument-placeless zero = refl
 argument-placeless (suc k) = every-get placeless arguments noReader k refl refl
 
 pub elements-firm : (table : List ℕ) → firmChoice (elements table) ≡ true
-unfolding elements firmChoice
+unfolding elements tameChoice
 elements-firm [] = refl
 elements-firm (k ∷ table) = rw (argument-firm k, elements-firm table) refl
 
@@ -43,3 +44,7 @@ elements-placeless (k ∷ table) = rw (argument-placeless k, elements-placeless 
 pub data-placeless : (table : List ℕ) → placeless (messageData table) ≡ true
 unfolding placeless placelessFields placelessChoice
 data-placeless table = rw (elements-placeless table) refl
+
+pub message-placeless : (table : List ℕ) → placeless (atcMessage table) ≡ true
+unfolding placeless placelessFields placelessChoice
+message-placeless table = rw (elements-placeless table) refl

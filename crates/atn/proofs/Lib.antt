@@ -13,5 +13,7 @@ pub mod Five
 pub mod Marks
 pub mod Shift
 pub mod Worked
+pub mod Tame
 pub mod Firm
+pub mod Calm
 pub mod Elements

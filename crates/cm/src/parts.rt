@@ -14,7 +14,7 @@ use cursor::place::stop;
 use cursor::texts::ia5;
 use records::emit;
 use small::names::read_reason;
-use small::tell::tell_name;
+use small::telling::tell_name;
 use tell::tell_text;
 
 // How far a reading is: its cursor, and how many records are told.

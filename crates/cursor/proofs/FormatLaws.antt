@@ -141,15 +141,18 @@ read-unmarked (orNote t v y f fs) b q h = read-unmarked fs b (suc q) h
 read-unmarked (unread t fs) b q h = let z : _≡_ {A = ℕ} 0 1 = cc in absurd (omega arith)
 
 -- without presence bits
-pub takes-plain : {fs : Flds} {s : List ℕ} {c d : Cursor} {T : ℕ → List Rec} → flags fs ≡ 0 → allRead fs ≡ true → Fields fs s c d (c .at) T → Takes (seq fs) s c d T
+pub reads-plain : (fs : Flds) (x : Ctx) {s : List ℕ} {c d : Cursor} {R : List Rec} → flags fs ≡ 0 → allRead fs ≡ true → Reads (λ u p. readFields fs x (bitOf s) u (c .at) p) s c d R → Reads (λ u p. read (seq fs) x (bitOf s) u p) s c d R
 unfolding read
-takes-plain {fs} {s} {c} {d} {T} n a h = record { took = λ x. record { led = λ i. (reads-same (λ u p. readFields fs x (bitOf s) u (c .at) p) (λ u p. read (seq fs) x (bitOf s) u p) (same x i) (h .took x)) .led i } }
+reads-plain fs x {s} {c} n a h = record { led = λ i. (reads-same (λ u p. readFields fs x (bitOf s) u (c .at) p) (λ u p. read (seq fs) x (bitOf s) u p) (same i) h) .led i }
   where
-    same : (x : Ctx) → Inside s c → readFields fs x (bitOf s) (c .end) (c .at) (c .at) ≡ read (seq fs) x (bitOf s) (c .end) (c .at)
-    same x i =
+    same : Inside s c → readFields fs x (bitOf s) (c .end) (c .at) (c .at) ≡ read (seq fs) x (bitOf s) (c .end) (c .at)
+    same i =
         sym
         (fetch-go (bitOf s) (c .end) (c .at) (flags fs) _ _ (omega (arith, i .0))
         ∙ rw (read-unmarked fs (bitOf s) (c .at) a, n, add-zero (c .at)) (then-nil (c .at) (λ p. readFields fs x (bitOf s) (c .end) (c .at) p)))
+
+pub takes-plain : {fs : Flds} {s : List ℕ} {c d : Cursor} {T : ℕ → List Rec} → flags fs ≡ 0 → allRead fs ≡ true → Fields fs s c d (c .at) T → Takes (seq fs) s c d T
+takes-plain {fs} n a h = record { took = λ x. reads-plain fs x n a (h .took x) }
 
 -- with n of them, which were opened; that the cursor is inside its window may be used of the fields
 pub takes-opened : {fs : Flds} {s : List ℕ} {c d : Cursor} {T : ℕ → List Rec} (n : ℕ) (g : Got) → flags fs ≡ n → allRead fs ≡ true → Opens s c n g → (Inside s c → Fields fs s (g .c) d (c .at) T) → Takes (seq fs) s c d T

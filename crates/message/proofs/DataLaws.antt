@@ -9,7 +9,7 @@ use Rattle.atn.specs.Format.{num, many, _⨾_, _⨾?_, orNote, end}
 use Rattle.atn.specs.Messages.{constrainedData, dateTimeGroup, messageData}
 use Rattle.atn.specs.Reading.{Rec, Ans, ok, fork, flags, sized, times, read, readFields}
 use Rattle.atn.specs.Tags as tag
-use Rattle.atn.proofs.Firm.{firm, firmFields, firmChoice}
+use Rattle.atn.proofs.Tame.{tame, tameFields}
 use Rattle.atn.proofs.Elements.{elements-firm}
 use Rattle.cursor.specs.declared.place.Cursor.{Cursor}
 use Rattle.cursor.specs.declared.place.Got.{Got}
@@ -55,7 +55,7 @@ module _ (table : List ℕ) {s : List ℕ} {c : Cursor} {g z : Got} {n : ℕ} {w
   counted y = runs-sized 54 (λ k u p. elementsAt table 1 k s u p) size y
 
   pub data-read : {a b : ℕ} {w₁ w₂ : List ℕ} {r t : At} → Runs a (elementsAt table 1 (z .v) s) s (z .c) n w w₁ r → Runs b (constrainedAt (g .v % 2) s) s (r .c) (r .n) w₁ w₂ t → Runs (a + b) (dataAt table s) s c n w w₂ t
-  unfolding dataAt constrainedAt firm flags allRead
+  unfolding dataAt constrainedAt tame flags allRead
   data-read {r = r} {t} x y =
       let all = counted x in
       record {
@@ -76,7 +76,7 @@ module _ (table : List ℕ) {s : List ℕ} {c : Cursor} {g z : Got} {n : ℕ} {w
 module _ (table : List ℕ) {s : List ℕ} {c : Cursor} {g : Got} {n : ℕ} {w w₁ w₂ w₃ w₄ w₅ : List ℕ} {r₁ r₂ r₃ r₄ r₅ : At} {b : ℕ} (opens : Opens s c 2 g) where
   pub message-read : Runs 1 (numberField 6 9 s) s (g .c) n w w₁ r₁ → Runs 1 (maybeNumberField (g .v / 2 % 2) 6 10 s) s (r₁ .c) (r₁ .n) w₁ w₂ r₂ → Runs 6 (dateTimeField s) s (r₂ .c) (r₂ .n) w₂ w₃ r₃
       → Runs 1 (acknowledgmentField (g .v % 2) s) s (r₃ .c) (r₃ .n) w₃ w₄ r₄ → Runs b (dataAt table s) s (r₄ .c) (r₄ .n) w₄ w₅ r₅ → Runs (1 + (1 + (6 + (1 + b)))) (messageAt table s) s c n w w₅ r₅
-  unfolding messageAt numberField maybeNumberField dateTimeField acknowledgmentField dataAt lowest highest ends firm firmFields flags allRead
+  unfolding messageAt numberField maybeNumberField dateTimeField acknowledgmentField dataAt lowest highest ends tame tameFields flags allRead
   message-read x₁ x₂ x₃ x₄ x₅ =
       record {
         recs = x₁ .recs ++ (x₂ .recs ++ (x₃ .recs ++ (x₄ .recs ++ x₅ .recs)));

@@ -10,7 +10,8 @@ use Rattle.x691.specs.Encoding.{width, count, highest}
 use Rattle.atn.specs.Format.{Fmt, bad, choice, alternativesOf}
 use Rattle.atn.specs.Messages.{arguments, noReader, argumentOf, elements}
 use Rattle.atn.specs.Reading.{Rec, rec, Ctx, Ans, ok, stop, then, or, mark, times, laxly, read, readChoice}
-use Rattle.atn.proofs.Firm.{isPast, firm, firm-read}
+use Rattle.atn.proofs.Tame.{tame}
+use Rattle.atn.proofs.Firm.{isPast, firm-read}
 use Rattle.atn.proofs.Elements.{elements-firm}
 use Rattle.cursor.specs.declared.place.Cursor.{Cursor}
 use Rattle.cursor.specs.declared.place.Got.{Got}
@@ -116,7 +117,7 @@ module _ (table : List ℕ) (i : ℕ) {s : List ℕ} {c : Cursor} {n : ℕ} {w :
   walk-none k z = rw z (runs-silent (elementsAt table i 0 s) (reads-ok [] 0 (marked-nil c)))
 
   pub walk-more : (k : ℕ) {w₁ w₂ : List ℕ} {r t : At} → (k ≡ 0 → ⊥) → Runs 143 (elementAt table i s) s c n w w₁ r → Runs ((k - 1) * 143) (elementsAt table (i + 1) (k - 1) s) s (r .c) (r .n) w₁ w₂ t → Runs (k * 143) (elementsAt table i k s) s c n w w₂ t
-  unfolding elementsAt elementAt times firm
+  unfolding elementsAt elementAt times tame
   walk-more zero h x y = absurd (h refl)
   walk-more (suc k) h x y =
       let e : i + 1 ≡ suc i = omega arith in

@@ -3,7 +3,6 @@ use mathlib.Core.Path.{_≡_, refl, sym, ap, _∙_}
 use mathlib.Core.Bool.{Bool, true, false, cond}
 use mathlib.Core.List.{List, [], _∷_, _++_, append-nil}
 use Prim.Native.Nat.{ℕ, zero, suc, _+_, _<_}
-use native.Mathlib.Nat.{add-zero}
 use native.Mathlib.Omega.{arith}
 use lib.Dec.{eqb}
 use borrow.Author.Tests.{eqb-true, eqb-false, ne-eqb}
@@ -15,14 +14,13 @@ use Rattle.atn.specs.Reading.{Rec, rec, Ctx, Ans, ok, then, mark, softly, passO
 use Rattle.atn.specs.Tags as tag
 use Rattle.atn.proofs.Elements.{data-placeless}
 use Rattle.atn.proofs.Shift.{placeless}
-use Rattle.atn.proofs.Steps.{fetch-go, then-nil}
 use Rattle.cursor.specs.declared.place.Cursor.{Cursor}
 use Rattle.cursor.specs.declared.place.Got.{Got}
 use Rattle.cursor.specs.Place.{Inside, Pulls, Led, Reads}
 use Rattle.cursor.specs.Place as place
 use Rattle.cursor.proofs.Laws.{reads-same, reads-then, reads-ok, marked-nil, pull-then}
 use Rattle.cursor.proofs.LengthLaws.{known-some}
-use Rattle.cursor.proofs.FormatLaws.{allRead, read-unmarked, reads-going, takes-back}
+use Rattle.cursor.proofs.FormatLaws.{allRead, reads-plain, reads-going, takes-back}
 use Rattle.records.specs.Told.{Told}
 use Rattle.records.proofs.Telling.{told-none, told-then, told-within}
 use Rattle.runs.specs.declared.At.{At}
@@ -54,17 +52,6 @@ module _ (v : ℕ) (down up : List ℕ) {b : ℕ} {s : List ℕ} {c : Cursor} {n
       go (suc v) h x = x
 
 ---------------------------------------------------------------- the body
-
--- a sequence without presence bits
-reads-plain : (fs : Flds) (x : Ctx) {s : List ℕ} {c d : Cursor} {R : List Rec} → flags fs ≡ 0 → allRead fs ≡ true → Reads (λ u p. readFields fs x (bitOf s) u (c .at) p) s c d R → Reads (λ u p. read (seq fs) x (bitOf s) u p) s c d R
-unfolding read
-reads-plain fs x {s} {c} n a h = record { led = λ i. (reads-same (λ u p. readFields fs x (bitOf s) u (c .at) p) (λ u p. read (seq fs) x (bitOf s) u p) (same i) h) .led i }
-  where
-    same : Inside s c → readFields fs x (bitOf s) (c .end) (c .at) (c .at) ≡ read (seq fs) x (bitOf s) (c .end) (c .at)
-    same i =
-        sym
-        (fetch-go (bitOf s) (c .end) (c .at) (flags fs) _ _ (omega (arith, i .0))
-        ∙ rw (read-unmarked fs (bitOf s) (c .at) a, n, add-zero (c .at)) (then-nil (c .at) (λ p. readFields fs x (bitOf s) (c .end) (c .at) p)))
 
 module _ (down up : List ℕ) where
   abbrev directions : Alts

@@ -12,7 +12,7 @@ use Rattle.atn.specs.Format.{Fmt, Alts, bad, num, small, noted, ext, seq, choic
 use Rattle.atn.specs.Messages.{extReason, protectedMessage, forward, extensionAlternative}
 use Rattle.atn.specs.Reading.{Rec, rec, Ans, ok, stop, mark, flags, read, readChoice}
 use Rattle.atn.specs.Tags as tag
-use Rattle.atn.proofs.Firm.{firm}
+use Rattle.atn.proofs.Tame.{tame}
 use Rattle.cursor.specs.declared.place.Cursor.{Cursor}
 use Rattle.cursor.specs.declared.place.Got.{Got}
 use Rattle.cursor.specs.Lengths.{Smalls}
@@ -49,7 +49,7 @@ module _ (row t : ℕ) {s : List ℕ} {c : Cursor} {g : NameAt} {n : ℕ} {w : L
 
 module _ (down : List ℕ) {s : List ℕ} {c : Cursor} {g : Got} {n : ℕ} {w w₁ w₂ : List ℕ} {r t : At} (opens : Opens s c 1 g) where
   pub start-read : {b : ℕ} → Runs 1 (maybeNumberField (g .v % 2) 0 7 s) s (g .c) n w w₁ r → Runs b (protected down s) s (r .c) (r .n) w₁ w₂ t → Runs (1 + b) (startAt down s) s c n w w₂ t
-  unfolding startAt maybeNumberField numberField protected lowest highest ends firm flags allRead
+  unfolding startAt maybeNumberField numberField protected lowest highest ends tame flags allRead
   start-read x y =
       record {
         recs = x .recs ++ y .recs;

@@ -10,7 +10,7 @@ use Rattle.atn.specs.Format.{Fmt, bad, skipped, inner, soft, anySpan, seq, refu
 use Rattle.atn.specs.Messages.{atcMessage, noReader}
 use Rattle.atn.specs.Reading.{Rec, rec, Ans, ok, fork, mark, flags, read}
 use Rattle.atn.specs.Tags as tag
-use Rattle.atn.proofs.Firm.{firm}
+use Rattle.atn.proofs.Tame.{tame}
 use Rattle.cursor.specs.declared.place.Cursor.{Cursor}
 use Rattle.cursor.specs.declared.place.Got.{Got}
 use Rattle.cursor.specs.declared.lengths.Measured.{Measured}
@@ -79,7 +79,7 @@ module _ (table : List ℕ) {s : List ℕ} {c : Cursor} {g : Got} {n : ℕ} {w :
 
   pub protected-read : {b : ℕ} {o : Got} {a : Cursor} {w₁ w₂ : List ℕ} {r t : At} → g .v ≡ 0 → Opens s (g .c) 2 o → Reads (algorithm (o .v / 2 % 2) s) s (o .c) a []
       → Runs b (messagePart (o .v % 2) table s) s a n w w₁ r → Runs 1 (integrity s) s (r .c) (r .n) w₁ w₂ t → Runs (b + 1) (protected table s) s c n w w₂ t
-  unfolding protected algorithm messagePart innerAt integrity firm flags allRead
+  unfolding protected algorithm messagePart innerAt integrity tame flags allRead
   protected-read {o = o} {a} {r = r} z opens x₀ x₁ x₂ =
       runs-root (0, 0) (body table) noReader g pulls z
       (record {

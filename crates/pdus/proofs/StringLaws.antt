@@ -11,8 +11,8 @@ use Rattle.x691.specs.Bits.{bitOf}
 use Rattle.atn.specs.Format.{Fmt, inner}
 use Rattle.atn.specs.Reading.{read}
 use Rattle.atn.specs.Messages.{atcMessage}
-use Rattle.atn.proofs.Shift.{placeless, placelessFields, placelessChoice}
-use Rattle.atn.proofs.Elements.{elements-placeless}
+use Rattle.atn.proofs.Shift.{placeless}
+use Rattle.atn.proofs.Elements.{message-placeless}
 use Rattle.cursor.specs.declared.place.Cursor.{Cursor}
 use Rattle.cursor.specs.declared.lengths.Measured.{Measured}
 use Rattle.cursor.specs.Lengths.{Measures, Passes}
@@ -28,10 +28,6 @@ use Rattle.pdus.specs.declared.strings.Inner.{Inner}
 use Rattle.pdus.specs.declared.strings.Inner.the-variants.{Lost, Found}
 use Rattle.pdus.specs.Parts.{innerAt}
 use Rattle.pdus.specs.Strings.{Lacks, Has, Strings}
-
-message-placeless : (table : List ℕ) → placeless (atcMessage table) ≡ true
-unfolding placeless placelessFields placelessChoice
-message-placeless table = rw (elements-placeless table) refl
 
 ---------------------------------------------------------------- where it stands
 

@@ -22,7 +22,7 @@ use message::fields::maybe_number_field;
 use records::emit;
 use runs::At;
 use small::names::read_reason;
-use small::tell::tell_name;
+use small::telling::tell_name;
 
 // The reason of an abort or of a forward response.
 fn reason_part(s: &[u8], words: &mut [u64], n: usize, c: Cursor, row: usize, tag: u64) -> At

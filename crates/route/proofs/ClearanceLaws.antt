@@ -14,6 +14,7 @@ use Rattle.atn.specs.Format.{out, bad, lack, quit, num, seq, many, loose, Flds,
 use Rattle.atn.specs.Reading.{Rec, rec, Ctx, Ans, ok, past, stop, glue, then, or, over, unless, mark, sized, letters, flags, unreadMarks, unreadMark, laxly, giveUp, read, readFields}
 use Rattle.atn.specs.Messages as message
 use Rattle.atn.specs.Messages.{routeClearance}
+use Rattle.atn.proofs.Tame.{keepsStop, tame}
 use Rattle.atn.proofs.Firm.{isPast, firm, firm-read}
 use Rattle.atn.proofs.Reach.{split}
 use Rattle.atn.proofs.Marks.{or-nil}
@@ -134,7 +135,7 @@ module _ (i : ℕ) (b : ℕ → ℕ) (e at : ℕ) where
   loose-seq y = fetch-go b e at 9 _ _ y ∙ sym (fetch-go b e at 9 _ _ y)
 
   loose-end : at ≤ e → isPast loosely ≡ true → placeOf loosely ≡ e
-  unfolding flags firm
+  unfolding flags tame keepsStop
   loose-end l h =
       split (at + 9) e
       (λ y. never-past (ap isPast (loose-seq y) ∙ firm-read b (seq clearanceFields) (0, i) e at refl) h)

@@ -26,7 +26,7 @@ use records::emit;
 use runs::At;
 use small::quantities::Quantity;
 use small::quantities::read_degrees;
-use small::tell::tell_quantity;
+use small::telling::tell_quantity;
 use tell::tell_text;
 
 pub struct Bearing {

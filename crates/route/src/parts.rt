@@ -9,7 +9,7 @@ use places::names::read_procedure;
 use places::telling::tell_procedure;
 use runs::At;
 use small::numbers::read_runway;
-use small::tell::tell_runway;
+use small::telling::tell_runway;
 use tell::tell_text;
 
 pub fn airport_part(s: &[u8], words: &mut [u64], n: usize, c: Cursor, has: u64, tag: u64) -> At

@@ -3,4 +3,4 @@ pub mod names; // names.rt: enumerations with an extension marker, and reasons
 pub mod numbers; // numbers.rt: a code, a runway
 pub mod quantities; // quantities.rt: a kind and a number of that kind
 pub mod frequency; // frequency.rt: a frequency or a satellite channel
-pub mod tell; // tell.rt: the records of these values
+pub mod telling; // telling.rt: the records of these values

@@ -1,8 +1,8 @@
 use borrow.Author.Needs.{needs}
 use native.Mathlib.Omega.{arith}
 use Rattle.records.proofs.Telling.{told-then, told-length}
-use Rattle.small.proofs.tell.tell_name.Statement.{statement}
-use Rattle.small.proofs.tell.tell_name.Tie as tie
+use Rattle.small.proofs.telling.tell_name.Statement.{statement}
+use Rattle.small.proofs.telling.tell_name.Tie as tie
 
 same-length : tie.Need-same-length
 same-length c = told-length (c .before .before .emit .ensures)

@@ -1,8 +1,8 @@
 use borrow.Author.Needs.{needs}
 use native.Mathlib.Omega.{arith}
 use Rattle.records.proofs.Telling.{told-then, told-length}
-use Rattle.small.proofs.tell.tell_triple.Statement.{statement}
-use Rattle.small.proofs.tell.tell_triple.Tie as tie
+use Rattle.small.proofs.telling.tell_triple.Statement.{statement}
+use Rattle.small.proofs.telling.tell_triple.Tie as tie
 
 tell-name-requires-2 : tie.Need-tell-name-requires-2
 tell-name-requires-2 c κs = omega (arith, c .before .before .before .tell-name .ensures .few)

@@ -1,8 +1,8 @@
 use borrow.Author.Needs.{needs}
 use native.Mathlib.Omega.{arith}
 use Rattle.records.proofs.Telling.{told-then, told-length}
-use Rattle.small.proofs.tell.tell_code.Statement.{statement}
-use Rattle.small.proofs.tell.tell_code.Tie as tie
+use Rattle.small.proofs.telling.tell_code.Statement.{statement}
+use Rattle.small.proofs.telling.tell_code.Tie as tie
 
 emit-requires-2 : tie.Need-emit-requires-2
 emit-requires-2 c κs = omega (arith, c .before .before .before .emit .ensures .few)
