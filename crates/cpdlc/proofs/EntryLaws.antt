@@ -1,0 +1,136 @@
+-- The tests before the reading, and the two readings of a frame of either direction.
+use mathlib.Core.Path.{_≡_, refl, sym, ap, _∙_}
+use mathlib.Core.Bool.{Bool, true, false, not, _&&_}
+use mathlib.Core.List.{List, []}
+use Prim.Native.Nat.{ℕ, _≤_, _<_}
+use native.Mathlib.Omega.{arith}
+use lib.ListN.{length}
+use lib.Dec.{leb}
+use borrow.Author.Tests.{leb-true, le-leb, lt-leb}
+use Rattle.atn.specs.Entries.{Reply, accept, ranOut, badly, unsupplied, orElse, afterOut, afterBad, readFrame, pdus, Outcome, refused, settle, frame-fits, table-fits, direction-fits, decide, enter, parse-pdus, parse-apdu}
+use Rattle.atn.proofs.Inverse.{both}
+use Rattle.answers.specs.declared.Answer.{Answer}
+use Rattle.answers.specs.Says.{answerOf, Says}
+use Rattle.cpdlc.specs.declared.verdicts.Verdict.{Verdict}
+use Rattle.cpdlc.specs.Verdicts.{verdictOf}
+
+---------------------------------------------------------------- the tables
+
+pub table-some : (t : List ℕ) → table-fits t ≡ true → (1 ≤ length t) × (length t ≤ 256)
+unfolding table-fits
+table-some t h = let z = both (leb 1 (length t)) (leb (length t) 256) h in (leb-true 1 (length t) (z .0), leb-true (length t) 256 (z .1))
+
+pub table-none : (t : List ℕ) → length t < 1 → false ≡ table-fits t
+unfolding table-fits
+table-none t h = rw (lt-leb 1 (length t) h)
+
+pub table-rest : (t : List ℕ) → 1 ≤ length t → leb (length t) 256 ≡ table-fits t
+unfolding table-fits
+table-rest t h = rw (le-leb 1 (length t) h)
+
+pub both-down : {a b : Bool} {t : Bool} → a ≡ true → b ≡ t → b ≡ a && t
+both-down x y = rw (x, y)
+
+pub both-up : {a : Bool} (t : Bool) → a ≡ false → false ≡ a && t
+both-up t x = rw x
+
+module _ (down up : List ℕ) {t : Bool} (q : t ≡ (table-fits down && table-fits up)) where
+  pub tables-fail : not t ≡ true → (table-fits down && table-fits up) ≡ false
+  tables-fail h = sym q ∙ go t h
+    where
+      go : (t : Bool) → not t ≡ true → t ≡ false
+      go true y = sym y
+      go false y = refl
+
+  pub tables-hold : not t ≡ false → (table-fits down && table-fits up) ≡ true
+  tables-hold h = sym q ∙ go t h
+    where
+      go : (t : Bool) → not t ≡ false → t ≡ true
+      go true y = refl
+      go false y = sym y
+
+  pub tables-are : not t ≡ false → (1 ≤ length down) × (length down ≤ 256) × (1 ≤ length up) × (length up ≤ 256)
+  tables-are h =
+      let z = both (table-fits down) (table-fits up) (tables-hold h) in
+      let d = table-some down (z .0) in
+      let u = table-some up (z .1) in
+      (d .0, d .1, u .0, u .1)
+
+---------------------------------------------------------------- the tests
+
+module _ (s : List ℕ) (d : ℕ) (down up w : List ℕ) where
+  pub pdus-long : 8192 < length s → _≡_ {A = Outcome} (refused 1 0 0, w) (parse-pdus s d down up w)
+  unfolding parse-pdus enter decide frame-fits
+  pdus-long h = rw (lt-leb (length s) 8192 h)
+
+  pub pdus-tables : length s ≤ 8192 → (table-fits down && table-fits up) ≡ false → _≡_ {A = Outcome} (refused 2 0 0, w) (parse-pdus s d down up w)
+  unfolding parse-pdus enter decide frame-fits
+  pdus-tables h t = rw (le-leb (length s) 8192 h, t)
+
+  pub pdus-direction : length s ≤ 8192 → (table-fits down && table-fits up) ≡ true → 1 < d → _≡_ {A = Outcome} (refused 3 0 0, w) (parse-pdus s d down up w)
+  unfolding parse-pdus enter decide frame-fits direction-fits
+  pdus-direction h t l = rw (le-leb (length s) 8192 h, t, lt-leb d 1 l)
+
+  pub pdus-reads : {o : Outcome} → length s ≤ 8192 → (table-fits down && table-fits up) ≡ true → d ≤ 1 → o ≡ settle (readFrame (pdus d down up) s) w → o ≡ parse-pdus s d down up w
+  unfolding parse-pdus enter decide frame-fits direction-fits
+  pdus-reads h t l e = e ∙ rw (le-leb (length s) 8192 h, t, le-leb d 1 l)
+
+module _ (s down up w : List ℕ) where
+  pub apdu-long : 8192 < length s → _≡_ {A = Outcome} (refused 1 0 0, w) (parse-apdu s down up w)
+  unfolding parse-apdu enter decide frame-fits
+  apdu-long h = rw (lt-leb (length s) 8192 h)
+
+  pub apdu-tables : length s ≤ 8192 → (table-fits down && table-fits up) ≡ false → _≡_ {A = Outcome} (refused 2 0 0, w) (parse-apdu s down up w)
+  unfolding parse-apdu enter decide frame-fits
+  apdu-tables h t = rw (le-leb (length s) 8192 h, t)
+
+  pub apdu-reads : {o : Outcome} → length s ≤ 8192 → (table-fits down && table-fits up) ≡ true → o ≡ settle (orElse (readFrame (pdus 0 down up) s) (readFrame (pdus 1 down up) s)) w → o ≡ parse-apdu s down up w
+  unfolding parse-apdu enter decide frame-fits pdus
+  apdu-reads h t e = e ∙ rw (le-leb (length s) 8192 h, t)
+
+---------------------------------------------------------------- the two readings
+
+module _ {v : Verdict} (r u : Reply) (h : v ≡ verdictOf r) where
+  else-out : v .why ≡ 4 → orElse r u ≡ afterOut (v .reach) u
+  unfolding verdictOf orElse
+  else-out = go r h
+    where
+      go : (r : Reply) → v ≡ verdictOf r → v .why ≡ 4 → orElse r u ≡ afterOut (v .reach) u
+      go (accept false p m R) q z = absurd (let y : _≡_ {A = ℕ} 0 4 = rw q at z in omega arith)
+      go (accept true p m R) q z = absurd (let y : _≡_ {A = ℕ} 7 4 = rw q at z in omega arith)
+      go (ranOut p) q z = rw q
+      go (badly p) q z = absurd (let y : _≡_ {A = ℕ} 5 4 = rw q at z in omega arith)
+      go (unsupplied p) q z = absurd (let y : _≡_ {A = ℕ} 6 4 = rw q at z in omega arith)
+
+  else-bad : v .why ≡ 5 → orElse r u ≡ afterBad (v .reach) u
+  unfolding verdictOf orElse
+  else-bad = go r h
+    where
+      go : (r : Reply) → v ≡ verdictOf r → v .why ≡ 5 → orElse r u ≡ afterBad (v .reach) u
+      go (accept false p m R) q z = absurd (let y : _≡_ {A = ℕ} 0 5 = rw q at z in omega arith)
+      go (accept true p m R) q z = absurd (let y : _≡_ {A = ℕ} 7 5 = rw q at z in omega arith)
+      go (ranOut p) q z = absurd (let y : _≡_ {A = ℕ} 4 5 = rw q at z in omega arith)
+      go (badly p) q z = rw q
+      go (unsupplied p) q z = absurd (let y : _≡_ {A = ℕ} 6 5 = rw q at z in omega arith)
+
+  else-first : (v .why ≡ 4 → ⊥) → (v .why ≡ 5 → ⊥) → orElse r u ≡ r
+  unfolding verdictOf orElse
+  else-first = go r h
+    where
+      go : (r : Reply) → v ≡ verdictOf r → (v .why ≡ 4 → ⊥) → (v .why ≡ 5 → ⊥) → orElse r u ≡ r
+      go (accept c p m R) q n₄ n₅ = refl
+      go (ranOut p) q n₄ n₅ = absurd (n₄ (rw q refl))
+      go (badly p) q n₄ n₅ = absurd (n₅ (rw q refl))
+      go (unsupplied p) q n₄ n₅ = refl
+
+-- the answer of what both say, of words that have stayed
+module _ {v : Verdict} (r u : Reply) {a : Answer} {w w₁ w′ : List ℕ} (h : v ≡ verdictOf r) (first : w₁ ≡ w) where
+  pub says-first : (v .why ≡ 4 → ⊥) → (v .why ≡ 5 → ⊥) → Says a w′ (settle r w₁) → _≡_ {A = Outcome} (answerOf a, w′) (settle (orElse r u) w)
+  says-first n₄ n₅ x = rw (else-first r u h n₄ n₅, ← first) (x .is)
+
+  module _ {w₂ : List ℕ} (second : w₂ ≡ w₁) where
+    pub says-out : v .why ≡ 4 → Says a w′ (settle (afterOut (v .reach) u) w₂) → _≡_ {A = Outcome} (answerOf a, w′) (settle (orElse r u) w)
+    says-out z x = rw (else-out r u h z, ← first, ← second) (x .is)
+
+    pub says-bad : v .why ≡ 5 → Says a w′ (settle (afterBad (v .reach) u) w₂) → _≡_ {A = Outcome} (answerOf a, w′) (settle (orElse r u) w)
+    says-bad z x = rw (else-bad r u h z, ← first, ← second) (x .is)

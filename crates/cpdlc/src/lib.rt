@@ -1,0 +1,71 @@
+// CPDLC: `parse_pdus` and `parse_apdu`. A frame is read without words first, so that a refusal leaves them all and the number of records is known before any is written.
+ghost use mathlib.Core.Path.{_≡_};
+ghost use Rattle.atn.specs.Entries.{parse-pdus, parse-apdu};
+ghost use Rattle.answers.specs.Says.{Says};
+ghost use Rattle.answers.specs.declared.Answer.the-variants.{Refused};
+use answers::Answer;
+use frames::answer_frame;
+use frames::try_frame;
+use tables::tables_fit;
+use verdicts::Verdict;
+use verdicts::after_bad;
+use verdicts::after_out;
+
+mod tables; // tables.rt: the test of the lent tables
+mod verdicts; // verdicts.rt: what a reading says before its records are written
+mod frames; // frames.rt: a frame read without words, and with them
+
+// The bytes of the longest frame.
+const LONGEST: usize = 8192;
+
+// A frame of a known direction: 0 is the downlink, 1 the uplink.
+pub fn parse_pdus(frame: &[u8], direction: u64, down: &[u8], up: &[u8], words: &mut [u64]) -> Answer
+    ensures { λ r. ⌜ Says r (now (words .exit)) (parse-pdus (now (frame .entry)) direction (now (down .entry)) (now (up .entry)) (now (words .entry))) ⌝ }
+{
+    if LONGEST < frame.len() {
+        return refused(1);
+    }
+    if !tables_fit(down, up) {
+        return refused(2);
+    }
+    if 1 < direction {
+        return refused(3);
+    }
+    let v = try_frame(frame, words, direction, down, up);
+    answer_frame(frame, words, direction, down, up, v)
+}
+
+// A frame of either direction: the downlink is read first, and the uplink where that is refused with 4 or 5.
+pub fn parse_apdu(frame: &[u8], down: &[u8], up: &[u8], words: &mut [u64]) -> Answer
+    ensures { λ r. ⌜ Says r (now (words .exit)) (parse-apdu (now (frame .entry)) (now (down .entry)) (now (up .entry)) (now (words .entry))) ⌝ }
+{
+    if LONGEST < frame.len() {
+        return refused(1);
+    }
+    if !tables_fit(down, up) {
+        return refused(2);
+    }
+    let v = try_frame(frame, words, 0, down, up);
+    if v.why == 4 {
+        let u = try_frame(frame, words, 1, down, up);
+        let x = after_out(v.reach, u);
+        return answer_frame(frame, words, 1, down, up, x);
+    }
+    if v.why == 5 {
+        let u = try_frame(frame, words, 1, down, up);
+        let x = after_bad(v.reach, u);
+        return answer_frame(frame, words, 1, down, up, x);
+    }
+    answer_frame(frame, words, 0, down, up, v)
+}
+
+// Before anything is read.
+fn refused(number: u64) -> Answer
+    ensures { λ r. ⌜ r ≡ Refused number 0 0 ⌝ }
+{
+    Answer::Refused {
+        number: number,
+        reach: 0,
+        need: 0,
+    }
+}
