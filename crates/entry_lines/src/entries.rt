@@ -1,0 +1,30 @@
+// The call.
+use super::later::parse_apdu;
+use super::later::parse_pdus;
+use super::names::Entry;
+use acse::parse_acse_apdu;
+use answers::Answer;
+use cm::parse_cm_ground;
+use cm::parse_cm_logon;
+
+pub fn call(
+    entry: Entry,
+    direction: u64,
+    down: &[u8],
+    up: &[u8],
+    frame: &[u8],
+    words: &mut [u64],
+) -> Answer {
+    match entry {
+        Entry::Apdu => parse_apdu(frame, down, up, words),
+        Entry::Pdus => parse_pdus(frame, direction, down, up, words),
+        Entry::CmGround => parse_cm_ground(frame, words),
+        Entry::CmLogon => parse_cm_logon(frame, words),
+        Entry::Acse => parse_acse_apdu(frame, words),
+        Entry::Unknown => Answer::Refused {
+            number: 0,
+            reach: 0,
+            need: 0,
+        },
+    }
+}

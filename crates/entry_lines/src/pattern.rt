@@ -1,0 +1,25 @@
+// What the lent words hold before a call, so that a word that should have stayed is known afterwards. Each place has another number.
+const FIRST: u64 = 0x5A5A_0000_0000_0000;
+
+pub fn fill(words: &mut [u64]) {
+    let mut i = 0;
+    while i < words.len() {
+        words[i] = FIRST + i as u64;
+        i += 1;
+    }
+}
+
+// Whether the words behind the records are as they were; they are not where the records would need more words than there are.
+pub fn stayed(words: &[u64], records: usize) -> bool {
+    if words.len() / 4 < records {
+        return false;
+    }
+    let mut i = records * 4;
+    while i < words.len() {
+        if words[i] != FIRST + i as u64 {
+            return false;
+        }
+        i += 1;
+    }
+    true
+}
