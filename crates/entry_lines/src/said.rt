@@ -5,7 +5,9 @@ use super::pattern::stayed;
 use answers::Answer;
 use lines::output::Output;
 use lines::output::put;
-use lines::output::put_number;
+use lines::said::accepted;
+use lines::said::labelled;
+use lines::said::refused;
 
 pub fn answer(space: &mut [u8], o: Output, a: Answer, words: &[u64]) -> Output
     requires { ⌜ o .len ≤ length (now space) ⌝ }
@@ -18,7 +20,7 @@ pub fn answer(space: &mut [u8], o: Output, a: Answer, words: &[u64]) -> Output
             marks,
             count,
         } => {
-            let o = outcome(space, o, cut, reach, marks, count);
+            let o = accepted(space, o, cut, reach, marks, count);
             let o = records(space, o, words, count);
             end(space, o, stayed(words, count))
         }
@@ -33,34 +35,12 @@ pub fn answer(space: &mut [u8], o: Output, a: Answer, words: &[u64]) -> Output
     }
 }
 
-fn outcome(space: &mut [u8], o: Output, cut: bool, reach: usize, marks: u64, count: usize) -> Output
-    requires { ⌜ o .len ≤ length (now space) ⌝ }
-    ensures { λ r. ⌜ r .len ≤ length (now (space .entry)) ⌝ }
-{
-    let o = start(space, o, cut);
-    let o = put_number(space, o, reach as u64);
-    let o = labelled(space, o, b" ", marks);
-    labelled(space, o, b" ", count as u64)
-}
-
-fn start(space: &mut [u8], o: Output, cut: bool) -> Output
-    requires { ⌜ o .len ≤ length (now space) ⌝ }
-    ensures { λ r. ⌜ r .len ≤ length (now (space .entry)) ⌝ }
-{
-    if cut {
-        put(space, o, b"ok cut ")
-    } else {
-        put(space, o, b"ok whole ")
-    }
-}
-
 // The need stands behind 7 alone.
 fn refusal(space: &mut [u8], o: Output, number: u64, reach: usize, need: usize) -> Output
     requires { ⌜ o .len ≤ length (now space) ⌝ }
     ensures { λ r. ⌜ r .len ≤ length (now (space .entry)) ⌝ }
 {
-    let o = labelled(space, o, b"no ", number);
-    let o = labelled(space, o, b" ", reach as u64);
+    let o = refused(space, o, number, reach);
     if number == 7 {
         return labelled(space, o, b" ", need as u64);
     }
@@ -105,12 +85,4 @@ fn end(space: &mut [u8], o: Output, clean: bool) -> Output
     } else {
         put(space, o, b" dirty\n")
     }
-}
-
-fn labelled(space: &mut [u8], o: Output, label: &[u8], n: u64) -> Output
-    requires { ⌜ o .len ≤ length (now space) ⌝ }
-    ensures { λ r. ⌜ r .len ≤ length (now (space .entry)) ⌝ }
-{
-    let o = put(space, o, label);
-    put_number(space, o, n)
 }

@@ -4,3 +4,4 @@ pub mod decimal; // decimal.rt: a number in decimal
 pub mod input; // input.rt: lines of standard input
 pub mod output; // output.rt: standard output, gathered
 pub mod flow; // flow.rt: where a program stands between two lines
+pub mod said; // said.rt: what is said of an answer
