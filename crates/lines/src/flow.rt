@@ -1,8 +1,7 @@
 // A program that answers lines: what it has read, what it has gathered, and whether it goes on.
-ghost use mathlib.Core.Path.{_≡_};
 ghost use Prim.Native.Nat.{_≤_};
 ghost use lib.ListN.{length};
-ghost use Rattle.lines.specs.Flow.{Runs};
+ghost use Rattle.lines.specs.Flow.{Runs, Answered, Ended};
 use super::input;
 use super::input::Input;
 use super::output;
@@ -28,7 +27,7 @@ pub fn start() -> Flow
 // After an answer: it is written now where no further line waits, so that whoever types lines sees each answer.
 pub fn answered(space: &[u8], input: Input, output: Output) -> Flow
     requires { ⌜ output .len ≤ length (now space) ⌝ }
-    ensures { λ r. ⌜ (r .input ≡ input) × (r .output .len ≤ length (now (space .entry))) ⌝ }
+    ensures { λ r. ⌜ Answered r input (length (now (space .entry))) ⌝ }
 {
     if input.at < input.end {
         return Flow {
@@ -48,7 +47,7 @@ pub fn answered(space: &[u8], input: Input, output: Output) -> Flow
 // After the last line.
 pub fn ended(space: &[u8], input: Input, output: Output) -> Flow
     requires { ⌜ output .len ≤ length (now space) ⌝ }
-    ensures { λ r. ⌜ (r .input ≡ input) × (r .output .len ≤ length (now (space .entry))) ⌝ }
+    ensures { λ r. ⌜ Ended r input ⌝ }
 {
     Flow {
         input: input,

@@ -20,7 +20,7 @@ same-length-3 : tie.Need-same-length-3
 same-length-3 c = search needs
 
 returns : tie.Need-returns
-returns c = record { waits = rw (c .ended .ensures .0) (c .before .before .before .before .before .before .before .before .next .ensures .waits); gathered = search needs }
+returns c = record { waits = rw (c .ended .ensures .waits) (c .before .before .before .before .before .before .before .before .next .ensures .waits); gathered = search needs }
 
 slice-aggregate-put : tie.Need-slice-aggregate-put
 slice-aggregate-put c = search needs
@@ -41,7 +41,7 @@ same-length-6 : tie.Need-same-length-6
 same-length-6 c = search needs
 
 returns-2 : tie.Need-returns-2
-returns-2 c = record { waits = rw (c .answered .ensures .0) (c .before .before .before .before .before .before .before .before .before .before .before .before .before .before .next .ensures .waits); gathered = search needs }
+returns-2 c = record { waits = rw (c .answered .ensures .waits) (c .before .before .before .before .before .before .before .before .before .before .before .before .before .before .next .ensures .waits); gathered = search needs }
 
 slice-reshare-prefix-answer : tie.Need-slice-reshare-prefix-answer
 slice-reshare-prefix-answer c = search needs
@@ -77,7 +77,7 @@ same-length-13 : tie.Need-same-length-13
 same-length-13 c = search needs
 
 returns-3 : tie.Need-returns-3
-returns-3 c = record { waits = rw (c .answered2 .ensures .0) (c .before .before .before .before .before .before .before .before .before .before .before .before .before .before .before .before .before .before .before .before .before .before .before .before .before .before .next .ensures .waits); gathered = search needs }
+returns-3 c = record { waits = rw (c .answered2 .ensures .waits) (c .before .before .before .before .before .before .before .before .before .before .before .before .before .before .before .before .before .before .before .before .before .before .before .before .before .before .next .ensures .waits); gathered = search needs }
 
 pub turn-spec : {M : Type 1} → statement M
 turn-spec =
