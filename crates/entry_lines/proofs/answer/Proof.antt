@@ -4,99 +4,23 @@ use borrow.Author.Needs.{needs}
 use Rattle.entry_lines.proofs.answer.Statement.{statement}
 use Rattle.entry_lines.proofs.answer.Tie as tie
 
-read-requires : tie.Need-read-requires
-read-requires c κs = search needs
-
-slice-aggregate-put : tie.Need-slice-aggregate-put
-slice-aggregate-put c = search needs
-
-put-requires : tie.Need-put-requires
-put-requires c κs = search needs
-
-same-length : tie.Need-same-length
-same-length c = search needs
-
-same-length-2 : tie.Need-same-length-2
-same-length-2 c = search needs
-
-same-length-3 : tie.Need-same-length-3
-same-length-3 c = search needs
-
-same-length-4 : tie.Need-same-length-4
-same-length-4 c = search needs
-
-returns : tie.Need-returns
-returns c = search needs
-
-slice-reshare-prefix-heard : tie.Need-slice-reshare-prefix-heard
-slice-reshare-prefix-heard c = search needs
-
 slice-aggregate-heard : tie.Need-slice-aggregate-heard
 slice-aggregate-heard c = sym (length-take-le _ _ (search needs))
-
-slice-reshare-prefix-heard-2 : tie.Need-slice-reshare-prefix-heard-2
-slice-reshare-prefix-heard-2 c = search needs
 
 slice-aggregate-heard-2 : tie.Need-slice-aggregate-heard-2
 slice-aggregate-heard-2 c = sym (length-take-le _ _ (search needs))
 
-slice-reshare-prefix-heard-3 : tie.Need-slice-reshare-prefix-heard-3
-slice-reshare-prefix-heard-3 c = search needs
-
 slice-aggregate-heard-3 : tie.Need-slice-aggregate-heard-3
 slice-aggregate-heard-3 c = sym (length-take-le _ _ (search needs))
 
-slice-relend-prefix-heard : tie.Need-slice-relend-prefix-heard
-slice-relend-prefix-heard c = search needs
-
 slice-aggregate-heard-4 : tie.Need-slice-aggregate-heard-4
 slice-aggregate-heard-4 c = sym (length-take-le _ _ (search needs))
-
-heard-requires : tie.Need-heard-requires
-heard-requires c κs = search needs
-
-same-length-5 : tie.Need-same-length-5
-same-length-5 c = search needs
-
-same-length-6 : tie.Need-same-length-6
-same-length-6 c = search needs
-
-same-length-7 : tie.Need-same-length-7
-same-length-7 c = search needs
-
-same-length-8 : tie.Need-same-length-8
-same-length-8 c = search needs
-
-same-length-9 : tie.Need-same-length-9
-same-length-9 c = search needs
-
-returns-2 : tie.Need-returns-2
-returns-2 c = search needs
 
 pub answer-spec : {M : Type 1} → statement M
 answer-spec =
     tie.close
     (tie.spec
-    read-requires
-    slice-aggregate-put
-    put-requires
-    same-length
-    same-length-2
-    same-length-3
-    same-length-4
-    returns
-    slice-reshare-prefix-heard
-    slice-aggregate-heard
-    slice-reshare-prefix-heard-2
-    slice-aggregate-heard-2
-    slice-reshare-prefix-heard-3
-    slice-aggregate-heard-3
-    slice-relend-prefix-heard
-    slice-aggregate-heard-4
-    heard-requires
-    same-length-5
-    same-length-6
-    same-length-7
-    same-length-8
-    same-length-9
-    returns-2)
+    (λ c κs. search needs) (λ c. search needs) (λ c κs. search needs) (λ c. search needs) (λ c. search needs) (λ c. search needs) (λ c. search needs)
+    (λ c. search needs) (λ c. search needs) slice-aggregate-heard (λ c. search needs) slice-aggregate-heard-2 (λ c. search needs)
+    slice-aggregate-heard-3 (λ c. search needs) slice-aggregate-heard-4 (λ c κs. search needs) (λ c. search needs) (λ c. search needs)
+    (λ c. search needs) (λ c. search needs) (λ c. search needs) (λ c. search needs))

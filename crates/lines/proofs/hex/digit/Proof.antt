@@ -5,12 +5,6 @@ use borrow.Author.Needs.{needs}
 use Rattle.lines.proofs.hex.digit.Statement.{statement}
 use Rattle.lines.proofs.hex.digit.Tie as tie
 
-sub-result : tie.Need-sub-result
-sub-result c = search needs
-
-sub-result-2 : tie.Need-sub-result-2
-sub-result-2 c = search needs
-
 returns : tie.Need-returns
 returns c = let v = c .before .args .c in simp (lt-ltb v 48 (omega arith))
 
@@ -36,12 +30,4 @@ pub digit-spec : {M : Type 1} → statement M
 digit-spec =
     tie.close
     (tie.spec
-    sub-result
-    sub-result-2
-    returns
-    returns-2
-    returns-3
-    returns-4
-    returns-5
-    returns-6
-    returns-7)
+    (λ c. search needs) (λ c. search needs) returns returns-2 returns-3 returns-4 returns-5 returns-6 returns-7)

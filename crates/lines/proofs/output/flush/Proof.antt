@@ -4,20 +4,9 @@ use borrow.Author.Needs.{needs}
 use Rattle.lines.proofs.output.flush.Statement.{statement}
 use Rattle.lines.proofs.output.flush.Tie as tie
 
-returns : tie.Need-returns
-returns c = search needs
-
 slice-aggregate-write-all : tie.Need-slice-aggregate-write-all
 slice-aggregate-write-all c = sym (length-take-le _ _ (c .before .before .before .pre))
 
-write-all-requires : tie.Need-write-all-requires
-write-all-requires c κs = search needs
-
-written-requires : tie.Need-written-requires
-written-requires c κs = search needs
-
-returns-2 : tie.Need-returns-2
-returns-2 c = search needs
-
 pub flush-spec : {M : Type 1} → statement M
-flush-spec = tie.close (tie.spec returns slice-aggregate-write-all write-all-requires written-requires returns-2)
+flush-spec = tie.close (tie.spec
+    (λ c. search needs) slice-aggregate-write-all (λ c κs. search needs) (λ c κs. search needs) (λ c. search needs))
