@@ -48,7 +48,7 @@ fn bad() -> Decoded
     }
 }
 
-// A digit's value, 16 for another character.
+// A digit's value, `A` and `a` being 10; 16 for another character.
 fn digit(c: u8) -> u8
     ensures { λ r. ⌜ r ≡ Hex·digit c ⌝ }
 {
