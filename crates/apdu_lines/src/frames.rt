@@ -1,0 +1,51 @@
+// A frame and its answer.
+ghost use Prim.Native.Nat.{_*_, _≤_};
+ghost use lib.ListN.{length};
+use super::later::parse_apdu;
+use answers::Answer;
+use lines::hex::decode;
+use lines::output::Output;
+use lines::output::put;
+use lines::said::accepted;
+use lines::said::refused;
+
+pub fn answer(
+    gathered: &mut [u8],
+    output: Output,
+    line: &[u8],
+    frame: &mut [u8],
+    words: &mut [u64],
+) -> Output
+    requires { ⌜ (output .len ≤ length (now gathered)) × (length (now line) ≤ length (now frame) * 2) ⌝ }
+    ensures { λ r. ⌜ r .len ≤ length (now (gathered .entry)) ⌝ }
+{
+    let d = decode(line, frame);
+    if !d.good {
+        return put(gathered, output, b"no hex\n");
+    }
+    let size = d.count;
+    let down = [0u8; 128];
+    let up = [0u8; 256];
+    let a = parse_apdu(&frame[..size], &down, &up, words);
+    let told = say(gathered, output, a);
+    put(gathered, told, b"\n")
+}
+
+fn say(gathered: &mut [u8], output: Output, a: Answer) -> Output
+    requires { ⌜ output .len ≤ length (now gathered) ⌝ }
+    ensures { λ r. ⌜ r .len ≤ length (now (gathered .entry)) ⌝ }
+{
+    match a {
+        Answer::Accepted {
+            cut,
+            reach,
+            marks,
+            count,
+        } => accepted(gathered, output, cut, reach, marks, count),
+        Answer::Refused {
+            number,
+            reach,
+            need: _,
+        } => refused(gathered, output, number, reach),
+    }
+}
