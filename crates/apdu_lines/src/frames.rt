@@ -1,13 +1,13 @@
 // A frame and its answer.
 ghost use Prim.Native.Nat.{_*_, _≤_};
 ghost use lib.ListN.{length};
-use super::later::parse_apdu;
 use answers::Answer;
 use lines::hex::decode;
 use lines::output::Output;
 use lines::output::put;
 use lines::said::accepted;
 use lines::said::refused;
+use pdus::parse_apdu;
 
 pub fn answer(
     gathered: &mut [u8],

@@ -7,7 +7,6 @@ use lines::input::next;
 use lines::output::put;
 
 mod frames; // frames.rt: a frame and its answer
-mod later; // later.rt: stands in for the entry
 
 fn main() {
     let mut taken = io::large_buffer();

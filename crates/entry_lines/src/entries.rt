@@ -1,11 +1,11 @@
 // The call.
-use super::later::parse_apdu;
-use super::later::parse_pdus;
 use super::names::Entry;
 use acse::parse_acse_apdu;
 use answers::Answer;
 use cm::parse_cm_ground;
 use cm::parse_cm_logon;
+use pdus::parse_apdu;
+use pdus::parse_pdus;
 
 pub fn call(
     entry: Entry,

@@ -14,7 +14,6 @@ mod case; // case.rt: a case
 mod pattern; // pattern.rt: what the lent words hold before a call
 mod said; // said.rt: the answer's line
 mod entries; // entries.rt: the call
-mod later; // later.rt: stands in for two entries
 
 fn main() {
     let mut taken = io::large_buffer();

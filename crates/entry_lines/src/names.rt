@@ -26,11 +26,10 @@ pub fn named(name: &[u8]) -> Entry {
     }
 }
 
-// Until crate `pdus` has its entries (later.rt), their cases are bad lines.
 pub fn is_there(e: Entry) -> bool {
     match e {
-        Entry::Apdu => false,
-        Entry::Pdus => false,
+        Entry::Apdu => true,
+        Entry::Pdus => true,
         Entry::CmGround => true,
         Entry::CmLogon => true,
         Entry::Acse => true,
