@@ -7,7 +7,7 @@ use lines::output::Output;
 use lines::output::put;
 use lines::said::accepted;
 use lines::said::refused;
-use pdus::parse_apdu;
+use cpdlc::parse_apdu;
 
 pub fn answer(
     gathered: &mut [u8],

@@ -4,8 +4,8 @@ use acse::parse_acse_apdu;
 use answers::Answer;
 use cm::parse_cm_ground;
 use cm::parse_cm_logon;
-use pdus::parse_apdu;
-use pdus::parse_pdus;
+use cpdlc::parse_apdu;
+use cpdlc::parse_pdus;
 
 pub fn call(
     entry: Entry,

@@ -1,0 +1,40 @@
+// The three entries by number. Two records are the most that so short a frame of context management has, three of association control.
+use acse::parse_acse_apdu;
+use answers::Answer;
+use cm::parse_cm_ground;
+use cm::parse_cm_logon;
+use listing::put_answer;
+use listing::put_text;
+
+pub const CM_GROUND: u64 = 0;
+
+pub const CM_LOGON: u64 = 1;
+
+pub const ACSE: u64 = 2;
+
+pub fn put_entry(line: &mut [u8; 1024], n: usize, entry: u64) -> usize {
+    if entry == CM_GROUND {
+        return put_text(line, n, b"cm_ground ");
+    }
+    if entry == CM_LOGON {
+        return put_text(line, n, b"cm_logon ");
+    }
+    put_text(line, n, b"acse ")
+}
+
+// The answer's text, at the front of the line.
+pub fn ask(line: &mut [u8; 1024], entry: u64, frame: &[u8]) -> usize {
+    let mut words = [0u64; 128];
+    let answer = parse(entry, frame, &mut words);
+    put_answer(line, 0, &words, answer)
+}
+
+fn parse(entry: u64, frame: &[u8], words: &mut [u64; 128]) -> Answer {
+    if entry == CM_GROUND {
+        return parse_cm_ground(frame, words);
+    }
+    if entry == CM_LOGON {
+        return parse_cm_logon(frame, words);
+    }
+    parse_acse_apdu(frame, words)
+}

@@ -1,0 +1,50 @@
+// What is refused before reading, and for want of room.
+use super::line::print;
+use acse::parse_acse_apdu;
+use cm::parse_cm_ground;
+use cm::parse_cm_logon;
+
+// 8,193 bytes, of which the first is printed.
+pub fn too_long() {
+    let frame = [0u8; 8193];
+    let mut words = [0u64; 128];
+    let ground = parse_cm_ground(&frame, &mut words);
+    print(
+        b"cm_ground, 8193 bytes that begin with",
+        &frame[..1],
+        &words,
+        ground,
+    );
+    let logon = parse_cm_logon(&frame, &mut words);
+    print(
+        b"cm_logon, 8193 bytes that begin with",
+        &frame[..1],
+        &words,
+        logon,
+    );
+    let association = parse_acse_apdu(&frame, &mut words);
+    print(
+        b"acse, 8193 bytes that begin with",
+        &frame[..1],
+        &words,
+        association,
+    );
+}
+
+// Three words are lent: a record has four.
+pub fn no_room() {
+    acse_in_three(&[0x80]);
+    cm_logon_in_three(&[0x40]);
+}
+
+fn acse_in_three(frame: &[u8]) {
+    let mut words = [0u64; 128];
+    let answer = parse_acse_apdu(frame, &mut words[..3]);
+    print(b"acse, three words,", frame, &words, answer);
+}
+
+fn cm_logon_in_three(frame: &[u8]) {
+    let mut words = [0u64; 128];
+    let answer = parse_cm_logon(frame, &mut words[..3]);
+    print(b"cm_logon, three words,", frame, &words, answer);
+}
