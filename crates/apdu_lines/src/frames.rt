@@ -2,12 +2,12 @@
 ghost use Prim.Native.Nat.{_*_, _≤_};
 ghost use lib.ListN.{length};
 use answers::Answer;
+use cpdlc::parse_apdu;
 use lines::hex::decode;
 use lines::output::Output;
 use lines::output::put;
 use lines::said::accepted;
 use lines::said::refused;
-use cpdlc::parse_apdu;
 
 pub fn answer(
     gathered: &mut [u8],
