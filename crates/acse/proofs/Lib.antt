@@ -3,4 +3,3 @@ pub mod FormatLaws
 pub mod SequenceLaws
 pub mod BodyLaws
 pub mod ApduLaws
-pub mod EntryLaws

@@ -1,29 +1,18 @@
 -- From the cursor behind a frame's message to what the entry says.
-use mathlib.Core.Path.{_≡_, refl, _∙_}
+use mathlib.Core.Path.{_≡_, refl}
 use mathlib.Core.Bool.{false}
-use mathlib.Core.List.{List, []}
-use Prim.Native.Nat.{ℕ, _*_, _≤_, _<_}
+use mathlib.Core.List.{List}
+use Prim.Native.Nat.{ℕ, _*_}
 use native.Mathlib.Omega.{arith}
 use lib.ListN.{length}
-use borrow.Author.Tests.{le-leb, lt-leb}
 use Rattle.x691.specs.Bits.{bitOf}
 use Rattle.atn.specs.Format.{Fmt, out, bad, lack, quit}
 use Rattle.atn.specs.Reading.{Rec, Ans, ok, or, read}
-use Rattle.atn.specs.Entries.{Reply, accept, reply, readFrame, Outcome, refused, frame-fits, decide, enter, settle}
+use Rattle.atn.specs.Entries.{accept, reply, readFrame, Outcome, refused, settle}
 use Rattle.atn.specs.Entries as entries
 use Rattle.cursor.specs.declared.place.Cursor.{Cursor}
 use Rattle.cursor.specs.Place.{number, Inside, Led, stayed, went, failed, Takes}
 use Rattle.records.proofs.Passes.{settle-out, settle-bad, settle-lack}
-
----------------------------------------------------------------- the test before the reading
-
-pub enter-long : (f : List ℕ → Reply) (s w : List ℕ) → 8192 < length s → _≡_ {A = Outcome} (refused 1 0 0, w) (enter [] f s w)
-unfolding enter decide frame-fits
-enter-long f s w h = rw (lt-leb (length s) 8192 h)
-
-pub enter-reads : (f : List ℕ → Reply) (s w : List ℕ) {o : Outcome} → length s ≤ 8192 → o ≡ settle (f s) w → o ≡ enter [] f s w
-unfolding enter decide frame-fits
-enter-reads f s w h e = e ∙ rw (le-leb (length s) 8192 h)
 
 ---------------------------------------------------------------- the reading of a frame
 

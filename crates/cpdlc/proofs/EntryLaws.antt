@@ -7,8 +7,9 @@ use native.Mathlib.Omega.{arith}
 use lib.ListN.{length}
 use lib.Dec.{leb}
 use borrow.Author.Tests.{leb-true, le-leb, lt-leb}
-use Rattle.atn.specs.Entries.{Reply, accept, ranOut, badly, unsupplied, orElse, afterOut, afterBad, readFrame, pdus, Outcome, refused, settle, frame-fits, table-fits, direction-fits, decide, enter, parse-pdus, parse-apdu}
+use Rattle.atn.specs.Entries.{Reply, accept, ranOut, badly, unsupplied, orElse, afterOut, afterBad, readFrame, pdus, Outcome, refused, settle, table-fits, direction-fits, decide, pdus-tests, apdu-tests, parse-pdus, parse-apdu}
 use Rattle.atn.proofs.Inverse.{both}
+use Rattle.answers.proofs.Entering.{enter-long, enter-tests}
 use Rattle.answers.specs.declared.Answer.{Answer}
 use Rattle.answers.specs.Says.{answerOf, Says}
 use Rattle.cpdlc.specs.declared.verdicts.Verdict.{Verdict}
@@ -60,33 +61,33 @@ module _ (down up : List ℕ) {t : Bool} (q : t ≡ (table-fits down && table-fi
 
 module _ (s : List ℕ) (d : ℕ) (down up w : List ℕ) where
   pub pdus-long : 8192 < length s → _≡_ {A = Outcome} (refused 1 0 0, w) (parse-pdus s d down up w)
-  unfolding parse-pdus enter decide frame-fits
-  pdus-long h = rw (lt-leb (length s) 8192 h)
+  unfolding parse-pdus
+  pdus-long h = enter-long (pdus-tests d down up) _ s w h
 
   pub pdus-tables : length s ≤ 8192 → (table-fits down && table-fits up) ≡ false → _≡_ {A = Outcome} (refused 2 0 0, w) (parse-pdus s d down up w)
-  unfolding parse-pdus enter decide frame-fits
-  pdus-tables h t = rw (le-leb (length s) 8192 h, t)
+  unfolding parse-pdus decide
+  pdus-tables h t = enter-tests (pdus-tests d down up) _ s w h (rw t)
 
   pub pdus-direction : length s ≤ 8192 → (table-fits down && table-fits up) ≡ true → 1 < d → _≡_ {A = Outcome} (refused 3 0 0, w) (parse-pdus s d down up w)
-  unfolding parse-pdus enter decide frame-fits direction-fits
-  pdus-direction h t l = rw (le-leb (length s) 8192 h, t, lt-leb d 1 l)
+  unfolding parse-pdus decide direction-fits
+  pdus-direction h t l = enter-tests (pdus-tests d down up) _ s w h (rw (t, lt-leb d 1 l))
 
   pub pdus-reads : {o : Outcome} → length s ≤ 8192 → (table-fits down && table-fits up) ≡ true → d ≤ 1 → o ≡ settle (readFrame (pdus d down up) s) w → o ≡ parse-pdus s d down up w
-  unfolding parse-pdus enter decide frame-fits direction-fits
-  pdus-reads h t l e = e ∙ rw (le-leb (length s) 8192 h, t, le-leb d 1 l)
+  unfolding parse-pdus decide direction-fits
+  pdus-reads h t l e = enter-tests (pdus-tests d down up) _ s w h (e ∙ rw (t, le-leb d 1 l))
 
 module _ (s down up w : List ℕ) where
   pub apdu-long : 8192 < length s → _≡_ {A = Outcome} (refused 1 0 0, w) (parse-apdu s down up w)
-  unfolding parse-apdu enter decide frame-fits
-  apdu-long h = rw (lt-leb (length s) 8192 h)
+  unfolding parse-apdu
+  apdu-long h = enter-long (apdu-tests down up) _ s w h
 
   pub apdu-tables : length s ≤ 8192 → (table-fits down && table-fits up) ≡ false → _≡_ {A = Outcome} (refused 2 0 0, w) (parse-apdu s down up w)
-  unfolding parse-apdu enter decide frame-fits
-  apdu-tables h t = rw (le-leb (length s) 8192 h, t)
+  unfolding parse-apdu decide
+  apdu-tables h t = enter-tests (apdu-tests down up) _ s w h (rw t)
 
   pub apdu-reads : {o : Outcome} → length s ≤ 8192 → (table-fits down && table-fits up) ≡ true → o ≡ settle (orElse (readFrame (pdus 0 down up) s) (readFrame (pdus 1 down up) s)) w → o ≡ parse-apdu s down up w
-  unfolding parse-apdu enter decide frame-fits pdus
-  apdu-reads h t e = e ∙ rw (le-leb (length s) 8192 h, t)
+  unfolding parse-apdu decide pdus
+  apdu-reads h t e = enter-tests (apdu-tests down up) _ s w h (e ∙ rw t)
 
 ---------------------------------------------------------------- the two readings
 

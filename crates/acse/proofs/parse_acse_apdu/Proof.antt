@@ -2,14 +2,14 @@ use mathlib.Core.Path.{refl, ap, _∙_}
 use Rattle.atn.specs.Entries.{parse-acse-apdu}
 use Rattle.records.proofs.Passes.{settle-out, settle-bad}
 use Rattle.acse.specs.Apdus.{replyOf}
-use Rattle.acse.proofs.EntryLaws.{enter-long, enter-reads}
+use Rattle.answers.proofs.Entering.{enter-long, enter-reads}
 use borrow.Author.Needs.{needs}
 use Rattle.acse.proofs.parse_acse_apdu.Statement.{statement}
 use Rattle.acse.proofs.parse_acse_apdu.Tie as tie
 
 returns : tie.Need-returns
 unfolding parse-acse-apdu
-returns c = record { is = enter-long _ _ _ (c .if1 .taken) }
+returns c = record { is = enter-long _ _ _ _ (c .if1 .taken) }
 
 returns-2 : tie.Need-returns-2
 unfolding parse-acse-apdu
