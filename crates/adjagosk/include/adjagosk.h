@@ -1,0 +1,50 @@
+/* The five entries of Adjagosk for C: link libadjagosk.a, which `rt staticlib adjagosk` writes (x86-64).
+
+   Each takes a frame and lends words for the records; all memory is the caller's. It writes nothing but the words
+   given, reads nothing but what is passed, keeps nothing, and always returns. No pointer may be null, also where the
+   length is 0; the words must be aligned for uint64_t, and may not overlap the frame or a table. */
+#ifndef ADJAGOSK_H
+#define ADJAGOSK_H
+
+#include <stdbool.h>
+#include <stddef.h>
+#include <stdint.h>
+
+#ifdef __cplusplus
+extern "C" {
+#endif
+
+struct adjagosk_numbers {
+    uint64_t refused; /* 0: accepted; 1 frame over 8,192 bytes, 2 a table of 0 or over 256 entries, 3 direction over 1,
+                         4 ran out, 5 badly formed, 6 an item that is not supplied, 7 too few words */
+    bool cut;         /* the frame ended where the reading carries on without the missing part */
+    size_t reach;     /* the bits of the frame that the answer rests on */
+    uint64_t marks;   /* the sum of 2^(mark - 1) over the marks 1 to 7 */
+    size_t records;   /* each has four words, at the front: tag, element, value, second number; words behind them stay */
+    size_t need;      /* behind 7: the words needed */
+}; /* behind a refusal all but `refused`, `reach` and `need` is 0, and the words stay */
+
+/* CPDLC, direction unknown. A table has one byte for each element index; docs/TAGS.md says what it stands for. */
+struct adjagosk_numbers adjagosk_apdu(const uint8_t *frame, size_t frame_length,
+                                      const uint8_t *down, size_t down_length,
+                                      const uint8_t *up, size_t up_length,
+                                      uint64_t *words, size_t words_length);
+
+/* CPDLC, direction 0 for the downlink, 1 for the uplink. */
+struct adjagosk_numbers adjagosk_pdus(const uint8_t *frame, size_t frame_length, uint64_t direction,
+                                      const uint8_t *down, size_t down_length,
+                                      const uint8_t *up, size_t up_length,
+                                      uint64_t *words, size_t words_length);
+
+/* Context management, from the ground and from the aircraft. */
+struct adjagosk_numbers adjagosk_cm_ground(const uint8_t *frame, size_t frame_length, uint64_t *words, size_t words_length);
+struct adjagosk_numbers adjagosk_cm_logon(const uint8_t *frame, size_t frame_length, uint64_t *words, size_t words_length);
+
+/* Association control. */
+struct adjagosk_numbers adjagosk_acse(const uint8_t *frame, size_t frame_length, uint64_t *words, size_t words_length);
+
+#ifdef __cplusplus
+}
+#endif
+
+#endif
