@@ -1,0 +1,105 @@
+// What is read, printed.
+ghost use Prim.Native.Nat.{_≤_};
+ghost use lib.ListN.{length};
+use cursor::lengths::length;
+use cursor::lengths::small;
+use cursor::place::Cursor;
+use cursor::place::bits;
+
+// The longest frame that the cursor reads.
+const LIMIT: usize = 8192;
+
+// The window is the whole frame.
+pub fn start(frame: &[u8]) -> Cursor
+    requires { ⌜ length (now frame) ≤ 8192 ⌝ }
+{
+    Cursor {
+        at: 0,
+        end: frame.len() * 8,
+        why: 0,
+        marks: 0,
+    }
+}
+
+// A number of n bits.
+pub fn number(label: &[u8], frame: &[u8], c: Cursor, n: usize) -> Cursor
+    requires { ⌜ n ≤ 64 ⌝ }
+{
+    let g = bits(frame, c, n);
+    let d = g.c;
+    told(label, g.v, d.why);
+    d
+}
+
+// A normally small number.
+pub fn small_number(label: &[u8], frame: &[u8], c: Cursor) -> Cursor {
+    if LIMIT < frame.len() {
+        return c;
+    }
+    let g = small(frame, c);
+    let d = g.c;
+    told(label, g.v, d.why);
+    d
+}
+
+// A length.
+pub fn size(label: &[u8], frame: &[u8], c: Cursor) -> Cursor {
+    if LIMIT < frame.len() {
+        return c;
+    }
+    let l = length(frame, c);
+    let d = l.c;
+    told(label, l.count as u64, d.why);
+    d
+}
+
+// A string of any size: a length, and seven bits a character.
+pub fn string(label: &[u8], frame: &[u8], c: Cursor) -> Cursor {
+    if LIMIT < frame.len() {
+        return c;
+    }
+    let l = length(frame, c);
+    let d = l.c;
+    io::write_all(1, label);
+    characters(frame, d, l.count)
+}
+
+fn characters(frame: &[u8], c: Cursor, n: usize) -> Cursor {
+    let mut d = c;
+    let mut i = 0;
+    while i < n {
+        let g = bits(frame, d, 7);
+        d = g.c;
+        if d.why == 0 {
+            letter(g.v);
+        }
+        i += 1;
+    }
+    d
+}
+
+fn letter(v: u64) {
+    io::write_all(1, &[octet(v)]);
+}
+
+fn octet(v: u64) -> u8 {
+    (v % 256) as u8
+}
+
+// A number, or - where the reading has stopped.
+fn told(label: &[u8], v: u64, why: u64) {
+    io::write_all(1, label);
+    if why == 0 {
+        io::print_decimal(1, v);
+    } else {
+        io::write_all(1, b"-");
+    }
+}
+
+// How it ended: why the reading stopped, the mark set and the reach.
+pub fn ended(c: Cursor) {
+    told(b"\nwhy ", c.why, 0);
+    told(b" marks ", c.marks, 0);
+    told(b" reach ", c.at as u64, 0);
+    io::write_all(1, b"\n\n");
+}
