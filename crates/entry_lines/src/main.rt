@@ -1,4 +1,4 @@
-// Any entry, with any tables and room: a case a line in, its answer a line out. tools/differential/README.md has the form of both. The file `stdout` is written by hand from document 01 and docs/TAGS.md.
+// Any entry, with any tables and room: a case a line in, its answer a line out. tools/differential/README.md has the form of both. CASES.md says where the answers in the file `stdout` are from.
 ghost use Prim.Native.Nat.{_≤_};
 ghost use lib.ListN.{length};
 ghost use Rattle.lines.specs.Flow.{Runs};
