@@ -1,4 +1,6 @@
 // The call.
+ghost use Rattle.answers.specs.Says.{Says};
+ghost use Rattle.entry_lines.specs.Calls.{outcome};
 use super::names::Entry;
 use acse::parse_acse_apdu;
 use answers::Answer;
@@ -14,7 +16,9 @@ pub fn call(
     up: &[u8],
     frame: &[u8],
     words: &mut [u64],
-) -> Answer {
+) -> Answer
+    ensures { λ r. ⌜ Says r (now (words .exit)) (outcome entry direction (now (down .entry)) (now (up .entry)) (now (frame .entry)) (now (words .entry))) ⌝ }
+{
     match entry {
         Entry::Apdu => parse_apdu(frame, down, up, words),
         Entry::Pdus => parse_pdus(frame, direction, down, up, words),

@@ -1,4 +1,6 @@
 // The entries by name.
+ghost use mathlib.Core.Path.{_≡_};
+ghost use Rattle.entry_lines.specs.Calls.{isEntry, isDirected};
 use check::same;
 
 pub enum Entry {
@@ -26,7 +28,9 @@ pub fn named(name: &[u8]) -> Entry {
     }
 }
 
-pub fn is_there(e: Entry) -> bool {
+pub fn is_there(e: Entry) -> bool
+    ensures { λ r. ⌜ r ≡ isEntry e ⌝ }
+{
     match e {
         Entry::Apdu => true,
         Entry::Pdus => true,
@@ -38,6 +42,15 @@ pub fn is_there(e: Entry) -> bool {
 }
 
 // Whether a case has to name a direction.
-pub fn has_direction(e: Entry) -> bool {
-    if let Entry::Pdus = e { true } else { false }
+pub fn has_direction(e: Entry) -> bool
+    ensures { λ r. ⌜ r ≡ isDirected e ⌝ }
+{
+    match e {
+        Entry::Apdu => false,
+        Entry::Pdus => true,
+        Entry::CmGround => false,
+        Entry::CmLogon => false,
+        Entry::Acse => false,
+        Entry::Unknown => false,
+    }
 }
