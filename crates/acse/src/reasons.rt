@@ -7,7 +7,8 @@ ghost use lib.Dec.{leb};
 ghost use Rattle.x691.specs.Range.{member};
 ghost use Rattle.atn.specs.Reading.{unless};
 ghost use Rattle.atn.specs.Messages.{extReason};
-ghost use Rattle.cursor.specs.Numbers.{lowest, highest};
+ghost use Rattle.cursor.specs.Ranges.{Listed};
+ghost use Rattle.cursor.specs.Numbers.{highest};
 ghost use Rattle.cursor.specs.Place.{marked};
 ghost use Rattle.acse.specs.Notes.{noteAt, noteRecs, listedReason};
 ghost use Rattle.acse.specs.SoFar.{Keeps};
@@ -17,6 +18,7 @@ use cursor::numbers::ranged;
 use cursor::place::Cursor;
 use cursor::place::bits;
 use cursor::place::mark;
+use cursor::ranges::Range;
 
 fn extended(c: Cursor, tag: u64) -> NoteAt
     ensures { λ r. ⌜ r ≡ noteAt (marked c 2) tag 0 1 ⌝ }
@@ -25,16 +27,16 @@ fn extended(c: Cursor, tag: u64) -> NoteAt
     note_at(d, tag, 0, 1)
 }
 
-// A number of the row's range, which begins at 0.
-pub fn reason(s: &[u8], c: Cursor, row: usize, tag: u64) -> NoteAt
-    requires { ⌜ (row < 58) × (lowest row ≡ 0) ⌝ }
-    ensures { λ r. ⌜ Keeps (extReason tag (highest row)) (now (s .entry)) c (r .c) (noteRecs (r .note)) ⌝ }
+// A number of the range, which begins at 0.
+pub fn reason(s: &[u8], c: Cursor, range: Range, tag: u64) -> NoteAt
+    requires { ⌜ Listed range × (range .lo ≡ 0) ⌝ }
+    ensures { λ r. ⌜ Keeps (extReason tag (highest (range .row))) (now (s .entry)) c (r .c) (noteRecs (r .note)) ⌝ }
 {
     let extension = bits(s, c, 1);
     if extension.v != 0 {
         return extended(extension.c, tag);
     }
-    let number = ranged(s, extension.c, row);
+    let number = ranged(s, extension.c, range);
     note_at(number.c, tag, number.v, 0)
 }
 

@@ -16,7 +16,7 @@ use Rattle.cursor.specs.Place.{stopped, Inside, Takes}
 use Rattle.cursor.specs.Formats.{Times}
 use Rattle.cursor.specs.Lengths.{Passes}
 use Rattle.cursor.specs.Numbers.{lowest, highest}
-use Rattle.cursor.specs.Ranges.{ends}
+use Rattle.cursor.specs.Ranges.{rowAt}
 use Rattle.cursor.specs.Texts.{SizeRow, Sized}
 use Rattle.cursor.proofs.Laws.{reads-same, reads-then, reads-ok, marked-nil}
 use Rattle.cursor.proofs.LengthLaws.{passes-ok}
@@ -68,7 +68,7 @@ module _ {t k : ℕ} {s : List ℕ} {c d : Cursor} {T : ℕ → List Rec} where
 
 -- the row of the selectors' sizes
 pub span-selectors : {t : ℕ} {s : List ℕ} {c d : Cursor} {T : ℕ → List Rec} (g : Got) → Sized 53 s c g → Octets t (g .v) s (g .c) d T → Takes (span t 8 10 11) s c d T
-unfolding read lowest highest ends
+unfolding read lowest highest
 span-selectors {t} {s} g z h = record { took = λ x. z .size (λ k e q. pull (bitOf s) e q (k * 8) λ _. ok (q + k * 8) (spanned t (x .0) q (k * 8)) 0) (h .took x) }
 
 ---------------------------------------------------------------- entries
@@ -92,13 +92,13 @@ version = num tag.ap-version (lowest 44) (highest 44)
 -- the record of an entry's place, and its two numbers
 module _ {t i : ℕ} {s : List ℕ} {a b z : Step} {w w₁ w₂ w₃ : List ℕ} {m : ℕ} (place : Told 1 w w₁ (a .n) m (rec t 0 i 0 ∷ [])) where
   pub entry-plain : {v : Bool} → v ≡ false → Does 1 (Takes qualifier s) (record { c = a .c; n = m }) b w₁ w₂ → Does 1 (Takes version s) b z w₂ w₃ → Does 3 (At (entryOf v t) i s) a z w w₃
-  unfolding lowest highest ends flags allRead
+  unfolding lowest highest flags allRead
   entry-plain e x y = rw e (does-placed place (does-plain refl refl (does-must x (does-last y))))
 
   -- the address is not supplied
   pub entry-addressed : {v : Bool} {y : Step} → v ≡ true → Does 1 (Takes qualifier s) (record { c = a .c; n = m }) b w₁ w₂ → Does 1 (Takes version s) b z w₂ w₃
       → y ≡ record { c = stopped (z .c) 6 0; n = z .n } → Does 3 (At (entryOf v t) i s) a y w w₃
-  unfolding lowest highest ends flags allRead
+  unfolding lowest highest flags allRead
   entry-addressed e x y q = rw e (does-placed place (does-plain refl refl (does-must x (does-must y (does-last (does-refused lack 0 (λ z. omega arith) q))))))
 
 ---------------------------------------------------------------- lists
@@ -108,7 +108,7 @@ same-list true t = refl
 same-list false t = refl
 
 takes-many : {f : Fmt} {s : List ℕ} {c d : Cursor} {T : ℕ → List Rec} (g : Got) → Sized 57 s c g → Times f 1 (g .v) s (g .c) d T → Takes (many 1 256 f) s c d T
-unfolding read lowest highest ends
+unfolding read lowest highest
 takes-many {f} {s} g z h = record { took = λ x. z .size (λ k e q. times (λ i p. read f (x .0, i) (bitOf s) e p) 1 k q) (h .took x) }
 
 pub does-list : (b : Bool) {t : ℕ} {s : List ℕ} {a z : Step} {w w′ : List ℕ} (g : Got) → Sized 57 s (a .c) g → Does (g .v * 3) (Times (entryOf b t) 1 (g .v) s) (behind g a) z w w′ → Does 1536 (Takes (listOf b t) s) a z w w′
@@ -119,18 +119,18 @@ does-list b {t} g z x =
 
 ---------------------------------------------------------------- rows of sizes
 
-pub row-of-flights : SizeRow 50
-unfolding lowest highest ends
+pub row-of-flights : SizeRow (rowAt 50)
+unfolding lowest highest
 row-of-flights = record { listed = omega arith; some = omega arith; ordered = omega arith; most = omega arith }
 
-pub row-of-airports : SizeRow 47
-unfolding lowest highest ends
+pub row-of-airports : SizeRow (rowAt 47)
+unfolding lowest highest
 row-of-airports = record { listed = omega arith; some = omega arith; ordered = omega arith; most = omega arith }
 
-pub row-of-selectors : SizeRow 53
-unfolding lowest highest ends
+pub row-of-selectors : SizeRow (rowAt 53)
+unfolding lowest highest
 row-of-selectors = record { listed = omega arith; some = omega arith; ordered = omega arith; most = omega arith }
 
-pub row-of-applications : SizeRow 57
-unfolding lowest highest ends
+pub row-of-applications : SizeRow (rowAt 57)
+unfolding lowest highest
 row-of-applications = record { listed = omega arith; some = omega arith; ordered = omega arith; most = omega arith }

@@ -15,8 +15,9 @@ use Rattle.cursor.specs.declared.place.Cursor.{Cursor}
 use Rattle.cursor.specs.declared.place.Got.{Got}
 use Rattle.cursor.specs.declared.ranges.Range.{Range}
 use Rattle.cursor.specs.Place.{number, marked, stopped, Pulls, Reads, Takes}
-use Rattle.cursor.specs.Ranges.{Row}
+use Rattle.cursor.specs.Ranges.{Listed}
 use Rattle.cursor.specs.Numbers.{lowest, highest, Ranged, Named}
+use Rattle.cursor.proofs.Table.{Row, row-of}
 use Rattle.cursor.proofs.Laws.{reads-ok, reads-stop, pull-then, marked-nil}
 
 -- the difference that wraps is the extent
@@ -53,6 +54,10 @@ module _ {s : List ℕ} {c d : Cursor} (g : Got) where
 
 ---------------------------------------------------------------- by the table's row
 
+pub lowest-of : {r : Range} → Listed r → lowest (r .row) ≡ r .lo
+unfolding lowest
+lowest-of l = sym (row-of l .lowest)
+
 module _ {k : ℕ} {r : Range} (row : Row k r) {s : List ℕ} {c : Cursor} (g : Got) (p : Pulls s c (r .width) g) where
   pulled : Pulls s c (width (extent (lowest k) (highest k))) g
   unfolding lowest highest
@@ -72,14 +77,18 @@ module _ {k : ℕ} {r : Range} (row : Row k r) {s : List ℕ} {c : Cursor} (g : 
       let n : leb (g .v) (extent (lowest k) (highest k)) ≡ false = rw (← row .lowest, ← row .highest, ← z) (lt-leb (g .v) _ l) in
       record { number = λ t. rw w at (takes-num g t (lowest k) (highest k) pulled (e ∙ rw n)) }
 
-  module _ (zero : lowest k ≡ 0) where
+  module _ (from : r .lo ≡ 0) where
+    zero : lowest k ≡ 0
+    unfolding lowest
+    zero = sym (row .lowest) ∙ from
+
     from-zero : Pulls s c (width (extent 0 (highest k))) g
     from-zero = rw zero at pulled
 
     pub named-in : {top : ℕ} → top ≡ extent (r .lo) (r .hi) → g .v ≤ top → Named k s c (record { v = g .v; c = g .c })
     unfolding lowest highest
-    named-in z l = record { name = λ t. takes-name g t (highest k) from-zero (rw (row .lowest, row .highest, zero) at (rw z at l)) refl }
+    named-in z l = record { name = λ t. takes-name g t (highest k) from-zero (rw (from, row .highest) at (rw z at l)) refl }
 
     pub named-over : {top : ℕ} {d : Cursor} → top ≡ extent (r .lo) (r .hi) → top < g .v → d ≡ stopped (g .c) 5 1 → Named k s c (record { v = g .v; c = d })
     unfolding lowest highest mark
-    named-over z l e = record { name = λ t. takes-unnamed g t (highest k) from-zero (rw (row .lowest, row .highest, zero) at (rw z at l)) e }
+    named-over z l e = record { name = λ t. takes-unnamed g t (highest k) from-zero (rw (from, row .highest) at (rw z at l)) e }

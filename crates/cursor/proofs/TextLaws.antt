@@ -22,9 +22,9 @@ use Rattle.cursor.specs.declared.place.Got.{Got}
 use Rattle.cursor.specs.declared.ranges.Range.{Range}
 use Rattle.cursor.specs.declared.texts.TextAt.{TextAt}
 use Rattle.cursor.specs.Place.{put, stopped, marked, Inside, Pulled, stuck, short, got, Pulls, Led, stayed, went, failed, Reads}
-use Rattle.cursor.specs.Ranges.{Row}
 use Rattle.cursor.specs.Numbers.{lowest, highest}
 use Rattle.cursor.specs.Texts.{textRecs, channelRecs, InFrame, SizeRow, Texts, Channel, Sized, Ahead, Passed, Digits}
+use Rattle.cursor.proofs.Table.{row-of}
 use Rattle.cursor.proofs.Laws.{reads-then, reads-same, reads-ok, pull-then, marked-nil}
 
 ---------------------------------------------------------------- a size
@@ -44,42 +44,43 @@ module _ {s : List ℕ} {c : Cursor} (g : Got) where
   unfolding sized
   sized-then lo hi K p q r = pull-then (width (hi - lo)) g (λ v e z. then (ok z [] (over hi (lo + v))) λ y. K (lo + v) e y) p (reads-then _ _ (reads-ok [] _ q) r)
 
-module _ {k : ℕ} (z : SizeRow k) {r : Range} (row : Row k r) where
-  ends : (r .lo ≡ lowest k) × (r .hi ≡ highest k)
+module _ {r : Range} (z : SizeRow r) where
+  ends : (r .lo ≡ lowest (r .row)) × (r .hi ≡ highest (r .row))
   unfolding lowest highest
-  ends = (row .lowest, row .highest)
+  ends = (row-of (z .listed) .lowest, row-of (z .listed) .highest)
 
   pub size-lowest : r .lo ≤ 256
-  size-lowest = rw (ends .0) (omega (arith, z .ordered, z .most))
+  size-lowest = omega (arith, z .ordered, z .most)
 
   -- none of the row's sizes is below zero
-  plain : extent (r .lo) (r .hi) ≡ highest k - lowest k
+  plain : extent (r .lo) (r .hi) ≡ highest (r .row) - lowest (r .row)
   unfolding extent
-  plain = rw (ends .0, ends .1) (omega (arith, z .ordered, z .most))
+  plain = rw (← ends .0, ← ends .1) (omega (arith, z .ordered, z .most))
 
   pub size-narrow : r .width ≤ 8
-  size-narrow = rw (row .fewest, plain) (width-le 8 _ (omega (arith, z .some, z .ordered, z .most)))
+  unfolding extent
+  size-narrow = rw (row-of (z .listed) .fewest) (width-le 8 _ (omega (arith, z .some, z .ordered, z .most)))
 
-  pulled : {s : List ℕ} {c : Cursor} (g : Got) → Pulls s c (r .width) g → Pulls s c (width (highest k - lowest k)) (record { v = g .v % 256; c = g .c })
-  pulled g p = rw (row .fewest, plain) at (clipped size-narrow p)
+  pulled : {s : List ℕ} {c : Cursor} (g : Got) → Pulls s c (r .width) g → Pulls s c (width (highest (r .row) - lowest (r .row))) (record { v = g .v % 256; c = g .c })
+  pulled g p = rw (row-of (z .listed) .fewest, plain) at (clipped size-narrow p)
 
-  pub size-in : {s : List ℕ} {c : Cursor} {v : ℕ} (g : Got) → Pulls s c (r .width) g → v ≡ r .lo + g .v % 256 → v ≤ r .hi → Sized k s c (record { v = v; c = g .c })
+  pub size-in : {s : List ℕ} {c : Cursor} {v : ℕ} (g : Got) → Pulls s c (r .width) g → v ≡ r .lo + g .v % 256 → v ≤ r .hi → Sized (r .row) s c (record { v = v; c = g .c })
   unfolding over unless
   size-in {v = v} g p q l =
-      let w : v ≡ lowest k + g .v % 256 = rw (ends .0) at q in
-      let n : leb (lowest k + g .v % 256) (highest k) ≡ true = rw (← w, ← ends .1) (le-leb v _ l) in
+      let w : v ≡ lowest (r .row) + g .v % 256 = rw (ends .0) at q in
+      let n : leb (lowest (r .row) + g .v % 256) (highest (r .row)) ≡ true = rw (← w, ← ends .1) (le-leb v _ l) in
       record {
-        size = λ K y. sized-then _ (lowest k) (highest k) K (pulled g p) (marked-nil (g .c) ∙ rw n) (rw w at y);
+        size = λ K y. sized-then _ (lowest (r .row)) (highest (r .row)) K (pulled g p) (marked-nil (g .c) ∙ rw n) (rw w at y);
         few = omega (arith, z .ordered, z .most);
       }
 
-  pub size-over : {s : List ℕ} {c d : Cursor} {v : ℕ} (g : Got) → Pulls s c (r .width) g → v ≡ r .lo + g .v % 256 → r .hi < v → d ≡ marked (g .c) 1 → Sized k s c (record { v = v; c = d })
+  pub size-over : {s : List ℕ} {c d : Cursor} {v : ℕ} (g : Got) → Pulls s c (r .width) g → v ≡ r .lo + g .v % 256 → r .hi < v → d ≡ marked (g .c) 1 → Sized (r .row) s c (record { v = v; c = d })
   unfolding over unless mark
   size-over {v = v} g p q l e =
-      let w : v ≡ lowest k + g .v % 256 = rw (ends .0) at q in
-      let n : leb (lowest k + g .v % 256) (highest k) ≡ false = rw (← w, ← ends .1) (lt-leb v _ l) in
+      let w : v ≡ lowest (r .row) + g .v % 256 = rw (ends .0) at q in
+      let n : leb (lowest (r .row) + g .v % 256) (highest (r .row)) ≡ false = rw (← w, ← ends .1) (lt-leb v _ l) in
       record {
-        size = λ K y. sized-then _ (lowest k) (highest k) K (pulled g p) (e ∙ rw n) (rw w at y);
+        size = λ K y. sized-then _ (lowest (r .row)) (highest (r .row)) K (pulled g p) (e ∙ rw n) (rw w at y);
         few = omega (arith, z .ordered, z .most);
       }
 

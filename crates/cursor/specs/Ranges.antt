@@ -1,80 +1,79 @@
--- The rows of the ranges' table: lowest and highest of each field that is a number, a size or a count.
+-- The table of ranges: lowest, highest and width of each field that is a number, a size or a count.
 use mathlib.Core.Path.{_≡_}
 use mathlib.Core.List.{List, [], _∷_}
-use Prim.Native.Nat.{ℕ, _≤_}
+use Prim.Native.Nat.{ℕ}
 use lib.ListN.{getD}
-use Rattle.x691.specs.Types.{extent}
-use Rattle.x691.specs.Encoding.{width}
 use Rattle.atn.specs.Schema.{minus}
 use Rattle.cursor.specs.declared.ranges.Range.{Range}
 
-abbrev pub Ends : Type 0
-Ends = ℕ × ℕ
+abbrev pub row : ℕ → ℕ → ℕ → ℕ → Range
+row k l h w = record { row = k; lo = l; hi = h; width = w }
 
-unfoldable pub ends : List Ends
-ends =
-    (0, 1) ∷
-    (1996, 2095) ∷
-    (1, 12) ∷
-    (1, 31) ∷
-    (0, 23) ∷
-    (0, 59) ∷
-    (0, 63) ∷
-    (0, 90000) ∷
-    (0, 89) ∷
-    (0, 5999) ∷
-    (0, 180000) ∷
-    (0, 179) ∷
-    (1, 360) ∷
-    (1, 360) ∷
-    (0, 400) ∷
-    (0, 800) ∷
-    (0, 2000) ∷
-    (0, 4000) ∷
-    (minus 50, 2000) ∷
-    (minus 100, 4000) ∷
-    (500, 4000) ∷
-    (minus 60, 7000) ∷
-    (minus 30, 25000) ∷
-    (30, 700) ∷
-    (100, 2500) ∷
-    (2850, 28000) ∷
-    (23600, 27398) ∷
-    (9000, 15999) ∷
-    (0, 7) ∷
-    (0, 8) ∷
-    (0, 5) ∷
-    (0, 11) ∷
-    (0, 4) ∷
-    (0, 8) ∷
-    (0, 2) ∷
-    (1, 36) ∷
-    (0, 3) ∷
-    (0, 12) ∷
-    (0, 7) ∷
-    (0, 2) ∷
-    (0, 9) ∷
-    (0, 2) ∷
-    (0, 5) ∷
-    (0, 255) ∷
-    (1, 255) ∷
-    (1, 5) ∷
-    (1, 4) ∷
-    (4, 4) ∷
-    (1, 20) ∷
-    (1, 5) ∷
-    (2, 8) ∷
-    (2, 7) ∷
-    (12, 12) ∷
-    (10, 11) ∷
-    (1, 5) ∷
-    (1, 2) ∷
-    (1, 128) ∷
-    (1, 256) ∷
+abbrev pub table : List Range
+table =
+    row 0 0 1 1 ∷
+    row 1 1996 2095 7 ∷
+    row 2 1 12 4 ∷
+    row 3 1 31 5 ∷
+    row 4 0 23 5 ∷
+    row 5 0 59 6 ∷
+    row 6 0 63 6 ∷
+    row 7 0 90000 17 ∷
+    row 8 0 89 7 ∷
+    row 9 0 5999 13 ∷
+    row 10 0 180000 18 ∷
+    row 11 0 179 8 ∷
+    row 12 1 360 9 ∷
+    row 13 1 360 9 ∷
+    row 14 0 400 9 ∷
+    row 15 0 800 10 ∷
+    row 16 0 2000 11 ∷
+    row 17 0 4000 12 ∷
+    row 18 (minus 50) 2000 12 ∷
+    row 19 (minus 100) 4000 13 ∷
+    row 20 500 4000 12 ∷
+    row 21 (minus 60) 7000 13 ∷
+    row 22 (minus 30) 25000 15 ∷
+    row 23 30 700 10 ∷
+    row 24 100 2500 12 ∷
+    row 25 2850 28000 15 ∷
+    row 26 23600 27398 12 ∷
+    row 27 9000 15999 13 ∷
+    row 28 0 7 3 ∷
+    row 29 0 8 4 ∷
+    row 30 0 5 3 ∷
+    row 31 0 11 4 ∷
+    row 32 0 4 3 ∷
+    row 33 0 8 4 ∷
+    row 34 0 2 2 ∷
+    row 35 1 36 6 ∷
+    row 36 0 3 2 ∷
+    row 37 0 12 4 ∷
+    row 38 0 7 3 ∷
+    row 39 0 2 2 ∷
+    row 40 0 9 4 ∷
+    row 41 0 2 2 ∷
+    row 42 0 5 3 ∷
+    row 43 0 255 8 ∷
+    row 44 1 255 8 ∷
+    row 45 1 5 3 ∷
+    row 46 1 4 2 ∷
+    row 47 4 4 0 ∷
+    row 48 1 20 5 ∷
+    row 49 1 5 3 ∷
+    row 50 2 8 3 ∷
+    row 51 2 7 3 ∷
+    row 52 12 12 0 ∷
+    row 53 10 11 1 ∷
+    row 54 1 5 3 ∷
+    row 55 1 2 1 ∷
+    row 56 1 128 7 ∷
+    row 57 1 256 8 ∷
     []
 
--- the row has these ends, and the fewest bits that hold every number of it
-pub record Row (k : ℕ) (r : Range) : Type 0 where
-  pub lowest : r .lo ≡ getD ends k (0, 0) .0
-  pub highest : r .hi ≡ getD ends k (0, 0) .1
-  pub fewest : r .width ≡ width (extent (r .lo) (r .hi))
+abbrev pub rowAt : ℕ → Range
+rowAt k = getD table k (row 0 0 0 0)
+
+-- a range that the table has, at the place that it names
+abbrev pub Listed : Range → Type 0
+Listed r = r ≡ rowAt (r .row)

@@ -9,9 +9,11 @@ use Rattle.atn.specs.Format.{text}
 use Rattle.atn.specs.Reading.{Rec, Ans, ok, pack, coded, units, letters, sized}
 use Rattle.cursor.specs.declared.place.Cursor.{Cursor}
 use Rattle.cursor.specs.declared.place.Got.{Got}
+use Rattle.cursor.specs.declared.ranges.Range.{Range}
 use Rattle.cursor.specs.declared.texts.Text.{Text}
 use Rattle.cursor.specs.declared.texts.TextAt.{TextAt}
 use Rattle.cursor.specs.Place.{Inside, Reads, Takes}
+use Rattle.cursor.specs.Ranges.{Listed}
 use Rattle.cursor.specs.Numbers.{lowest, highest}
 
 -- the records of a text of seven-bit characters, and those of a channel's digits, by the place and the number of the characters
@@ -27,11 +29,11 @@ pub record InFrame (w : ℕ) (s : List ℕ) (x : Text) : Type 0 where
   pub fits : x .at + x .len * w < 2 ^ 64
 
 -- a row of sizes, none of them zero, the highest at most 256
-pub record SizeRow (k : ℕ) : Type 0 where
-  pub listed : k < 58
-  pub some : 1 ≤ lowest k
-  pub ordered : lowest k ≤ highest k
-  pub most : highest k ≤ 256
+pub record SizeRow (r : Range) : Type 0 where
+  pub listed : Listed r
+  pub some : 1 ≤ r .lo
+  pub ordered : r .lo ≤ r .hi
+  pub most : r .hi ≤ 256
 
 pub record Texts (k : ℕ) (s : List ℕ) (c : Cursor) (r : TextAt) : Type 0 where
   pub text : (t : ℕ) → Takes (text t 128 0 (lowest k) (highest k)) s c (r .c) (λ n. textRecs t n s (r .text))

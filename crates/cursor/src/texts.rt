@@ -5,7 +5,7 @@ use super::place::Got;
 use super::place::bits;
 use super::place::mark;
 use super::place::stop;
-use super::ranges::range_at;
+use super::ranges::Range;
 use per::room::holds;
 
 // The place of the first character's bit, and the number of characters.
@@ -19,22 +19,21 @@ pub struct TextAt {
     pub c: Cursor,
 }
 
-// An IA5 text whose length is a number of the row's range. Where the reading stops the text is empty, so that its bits are in the frame whatever came before.
-pub fn ia5(s: &[u8], c: Cursor, row: usize) -> TextAt
-    requires { ⌜ SizeRow row ⌝ }
-    ensures { λ r. ⌜ Texts row (now (s .entry)) c r ⌝ }
+// An IA5 text whose length is a number of the range. Where the reading stops the text is empty, so that its bits are in the frame whatever came before.
+pub fn ia5(s: &[u8], c: Cursor, range: Range) -> TextAt
+    requires { ⌜ SizeRow range ⌝ }
+    ensures { λ r. ⌜ Texts (range .row) (now (s .entry)) c r ⌝ }
 {
-    let g = size(s, c, row);
+    let g = size(s, c, range);
     let len = g.v as usize;
     characters(s, g.c, len)
 }
 
-// A size of the row's range. Above the range it is a size all the same, with mark 1.
-pub fn size(s: &[u8], c: Cursor, row: usize) -> Got
-    requires { ⌜ SizeRow row ⌝ }
-    ensures { λ r. ⌜ Sized row (now (s .entry)) c r ⌝ }
+// A size of the range. Above the range it is a size all the same, with mark 1.
+pub fn size(s: &[u8], c: Cursor, range: Range) -> Got
+    requires { ⌜ SizeRow range ⌝ }
+    ensures { λ r. ⌜ Sized (range .row) (now (s .entry)) c r ⌝ }
 {
-    let range = range_at(row);
     let g = bits(s, c, range.width);
     // of eight bits at most, so the remainder is the number: it bounds the size for callers who know nothing of the window
     let v = range.lo + g.v % 256;

@@ -15,7 +15,7 @@ use Rattle.cursor.specs.declared.place.Cursor.{Cursor}
 use Rattle.cursor.specs.declared.place.Got.{Got}
 use Rattle.cursor.specs.Numbers.{lowest, highest}
 use Rattle.cursor.specs.Place.{Inside, Opens}
-use Rattle.cursor.specs.Ranges.{ends}
+use Rattle.cursor.specs.Ranges.{rowAt}
 use Rattle.cursor.specs.Texts.{SizeRow, Sized}
 use Rattle.cursor.proofs.Laws.{reads-ok, marked-nil}
 use Rattle.cursor.proofs.FormatLaws.{allRead, opened-inside, opened-bit, last-bit}
@@ -27,8 +27,8 @@ use Rattle.runs.proofs.SizeLaws.{runs-sized}
 use Rattle.message.specs.Fields.{numberField, maybeNumberField, dateTimeField, acknowledgmentField}
 use Rattle.message.specs.Elements.{elementFormat, elementsAt, constrainedAt, dataAt, messageAt}
 
-pub elements-size : SizeRow 54
-unfolding lowest highest ends
+pub elements-size : SizeRow (rowAt 54)
+unfolding lowest highest
 elements-size = record { listed = omega arith; some = omega arith; ordered = omega arith; most = omega arith }
 
 ---------------------------------------------------------------- the data
@@ -51,7 +51,7 @@ module _ (has : ℕ) {s : List ℕ} {c : Cursor} {n : ℕ} {w : List ℕ} where
 -- the elements behind their count
 module _ (table : List ℕ) {s : List ℕ} {c : Cursor} {g z : Got} {n : ℕ} {w : List ℕ} (opens : Opens s c 1 g) (size : Sized 54 s (g .c) z) where
   counted : {a : ℕ} {w₁ : List ℕ} {r : At} → Runs a (elementsAt table 1 (z .v) s) s (z .c) n w w₁ r → Runs a (λ u p. read (many 1 5 (elementFormat table)) (0, 0) (bitOf s) u p) s (g .c) n w w₁ r
-  unfolding read elementsAt lowest highest ends
+  unfolding read elementsAt lowest highest
   counted y = runs-sized 54 (λ k u p. elementsAt table 1 k s u p) size y
 
   pub data-read : {a b : ℕ} {w₁ w₂ : List ℕ} {r t : At} → Runs a (elementsAt table 1 (z .v) s) s (z .c) n w w₁ r → Runs b (constrainedAt (g .v % 2) s) s (r .c) (r .n) w₁ w₂ t → Runs (a + b) (dataAt table s) s c n w w₂ t
@@ -76,7 +76,7 @@ module _ (table : List ℕ) {s : List ℕ} {c : Cursor} {g z : Got} {n : ℕ} {w
 module _ (table : List ℕ) {s : List ℕ} {c : Cursor} {g : Got} {n : ℕ} {w w₁ w₂ w₃ w₄ w₅ : List ℕ} {r₁ r₂ r₃ r₄ r₅ : At} {b : ℕ} (opens : Opens s c 2 g) where
   pub message-read : Runs 1 (numberField 6 9 s) s (g .c) n w w₁ r₁ → Runs 1 (maybeNumberField (g .v / 2 % 2) 6 10 s) s (r₁ .c) (r₁ .n) w₁ w₂ r₂ → Runs 6 (dateTimeField s) s (r₂ .c) (r₂ .n) w₂ w₃ r₃
       → Runs 1 (acknowledgmentField (g .v % 2) s) s (r₃ .c) (r₃ .n) w₃ w₄ r₄ → Runs b (dataAt table s) s (r₄ .c) (r₄ .n) w₄ w₅ r₅ → Runs (1 + (1 + (6 + (1 + b)))) (messageAt table s) s c n w w₅ r₅
-  unfolding messageAt numberField maybeNumberField dateTimeField acknowledgmentField dataAt lowest highest ends tame tameFields flags allRead
+  unfolding messageAt numberField maybeNumberField dateTimeField acknowledgmentField dataAt lowest highest tame tameFields flags allRead
   message-read x₁ x₂ x₃ x₄ x₅ =
       record {
         recs = x₁ .recs ++ (x₂ .recs ++ (x₃ .recs ++ (x₄ .recs ++ x₅ .recs)));

@@ -10,7 +10,6 @@ use Rattle.atn.specs.Reading.{Ans, ok, rec, fork, read}
 use Rattle.cursor.specs.declared.place.Cursor.{Cursor}
 use Rattle.cursor.specs.declared.place.Got.{Got}
 use Rattle.cursor.specs.Numbers.{lowest, highest, Ranged}
-use Rattle.cursor.specs.Ranges.{ends}
 use Rattle.cursor.proofs.Laws.{reads-ok, marked-nil}
 use Rattle.records.specs.Told.{Told}
 use Rattle.runs.specs.declared.At.{At}
@@ -63,5 +62,5 @@ module _ (has : ℕ) {s : List ℕ} {c : Cursor} {n : ℕ} {w : List ℕ} where
   acknowledgment-absent z h x = runs-clear absent (there s) has z (runs-told absent (reads-ok _ 0 (marked-nil c)) h x)
 
   pub acknowledgment-there : {w′ : List ℕ} {r : At} → (has ≡ 0 → ⊥) → Runs 1 (numberField 0 17 s) s c n w w′ r → Runs 1 (acknowledgmentField has s) s c n w w′ r
-  unfolding acknowledgmentField numberField lowest highest ends
+  unfolding acknowledgmentField numberField lowest highest
   acknowledgment-there z x = runs-set absent (there s) has z x

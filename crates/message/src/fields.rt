@@ -1,21 +1,23 @@
 // Numbers of the header that are read and, if the reading goes on, told at once.
 ghost use Prim.Native.Nat.{_<_, _^_};
+ghost use Rattle.cursor.specs.Ranges.{Listed};
 ghost use Rattle.message.specs.Fields.{numberField, maybeNumberField, dateTimeField, acknowledgmentField};
 ghost use Rattle.runs.specs.Runs.{Runs};
 use super::times::read_date_time;
 use super::times::tell_date_time;
 use cursor::numbers::ranged;
+use cursor::ranges::Range;
 use cursor::ranges::SIDE;
 use records::emit;
 use runs::At;
 
-// A number of the row's range under its tag.
-pub fn number_field(s: &[u8], words: &mut [u64], x: At, row: usize, tag: u64) -> At
-    requires { ⌜ (row < 58) × (x .n < 2 ^ 32) ⌝ }
-    ensures { λ r. ⌜ Runs 1 (numberField row tag (now (s .entry))) (now (s .entry)) (x .c) (x .n) (now (words .entry)) (now (words .exit)) r ⌝ }
+// A number of the range under its tag.
+pub fn number_field(s: &[u8], words: &mut [u64], x: At, range: Range, tag: u64) -> At
+    requires { ⌜ Listed range × (x .n < 2 ^ 32) ⌝ }
+    ensures { λ r. ⌜ Runs 1 (numberField (range .row) tag (now (s .entry))) (now (s .entry)) (x .c) (x .n) (now (words .entry)) (now (words .exit)) r ⌝ }
 {
     let n = x.n;
-    let g = ranged(s, x.c, row);
+    let g = ranged(s, x.c, range);
     let d = g.c;
     if d.why != 0 {
         return At { n: n, c: d };
@@ -25,14 +27,14 @@ pub fn number_field(s: &[u8], words: &mut [u64], x: At, row: usize, tag: u64) ->
 }
 
 // The same, if it is there.
-pub fn maybe_number_field(s: &[u8], words: &mut [u64], x: At, has: u64, row: usize, tag: u64) -> At
-    requires { ⌜ (row < 58) × (x .n < 2 ^ 32) ⌝ }
-    ensures { λ r. ⌜ Runs 1 (maybeNumberField has row tag (now (s .entry))) (now (s .entry)) (x .c) (x .n) (now (words .entry)) (now (words .exit)) r ⌝ }
+pub fn maybe_number_field(s: &[u8], words: &mut [u64], x: At, has: u64, range: Range, tag: u64) -> At
+    requires { ⌜ Listed range × (x .n < 2 ^ 32) ⌝ }
+    ensures { λ r. ⌜ Runs 1 (maybeNumberField has (range .row) tag (now (s .entry))) (now (s .entry)) (x .c) (x .n) (now (words .entry)) (now (words .exit)) r ⌝ }
 {
     if has == 0 {
         return x;
     }
-    number_field(s, words, x, row, tag)
+    number_field(s, words, x, range, tag)
 }
 
 pub fn date_time_field(s: &[u8], words: &mut [u64], x: At) -> At

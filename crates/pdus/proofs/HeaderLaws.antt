@@ -13,7 +13,7 @@ use Rattle.cursor.specs.declared.texts.TextAt.{TextAt}
 use Rattle.cursor.specs.Lengths.{Passes}
 use Rattle.cursor.specs.Numbers.{lowest, highest}
 use Rattle.cursor.specs.Place.{put, Inside, Takes}
-use Rattle.cursor.specs.Ranges.{ends}
+use Rattle.cursor.specs.Ranges.{rowAt}
 use Rattle.cursor.specs.Texts.{SizeRow, Texts}
 use Rattle.cursor.proofs.Laws.{reads-same}
 use Rattle.cursor.proofs.LengthLaws.{passes-ok}
@@ -24,8 +24,8 @@ use Rattle.atn.specs.Reading.{or}
 use Rattle.pdus.specs.declared.forward.HeaderAt.{HeaderAt}
 use Rattle.pdus.specs.Forward.{Headers, Forgives}
 
-pub flight-size : SizeRow 50
-unfolding lowest highest ends
+pub flight-size : SizeRow (rowAt 50)
+unfolding lowest highest
 flight-size = record { listed = omega arith; some = omega arith; ordered = omega arith; most = omega arith }
 
 -- the 24 bits of the address
@@ -49,7 +49,7 @@ module _ {s : List ℕ} {c d : Cursor} (passes : Passes c 24 d) where
 
 pub header-read : {s : List ℕ} {c d : Cursor} {t : DateTimeAt} {x : TextAt} → DateTimes s c t → Texts 50 s (t .c) x → Passes (x .c) 24 d
     → Headers s c (record { header = record { time = t .time; name = x .text; address = x .c .at }; c = d })
-unfolding lowest highest ends flags allRead
+unfolding lowest highest flags allRead
 header-read h g p = record { takes = takes-plain refl refl (fields-must (h .takes) (fields-must (g .text 19) (fields-last (address p)))); few = g .few; held = g .held }
 
 ---------------------------------------------------------------- what is left of a body that failed

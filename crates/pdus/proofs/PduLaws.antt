@@ -18,7 +18,6 @@ use Rattle.cursor.specs.declared.place.Got.{Got}
 use Rattle.cursor.specs.Lengths.{Smalls}
 use Rattle.cursor.specs.Numbers.{lowest, highest}
 use Rattle.cursor.specs.Place.{marked, stopped, Pulls, Opens}
-use Rattle.cursor.specs.Ranges.{ends}
 use Rattle.cursor.proofs.Laws.{reads-same, reads-stop}
 use Rattle.cursor.proofs.LengthLaws.{takes-small}
 use Rattle.cursor.proofs.FormatLaws.{allRead, opened-inside, last-bit}
@@ -49,7 +48,7 @@ module _ (row t : ℕ) {s : List ℕ} {c : Cursor} {g : NameAt} {n : ℕ} {w : L
 
 module _ (down : List ℕ) {s : List ℕ} {c : Cursor} {g : Got} {n : ℕ} {w w₁ w₂ : List ℕ} {r t : At} (opens : Opens s c 1 g) where
   pub start-read : {b : ℕ} → Runs 1 (maybeNumberField (g .v % 2) 0 7 s) s (g .c) n w w₁ r → Runs b (protected down s) s (r .c) (r .n) w₁ w₂ t → Runs (1 + b) (startAt down s) s c n w w₂ t
-  unfolding startAt maybeNumberField numberField protected lowest highest ends tame flags allRead
+  unfolding startAt maybeNumberField numberField protected lowest highest tame flags allRead
   start-read x y =
       record {
         recs = x .recs ++ y .recs;
@@ -80,12 +79,12 @@ module _ {s : List ℕ} {c d : Cursor} {g : Got} {n m : ℕ} {w w₁ : List ℕ}
 module _ (v : ℕ) (down up : List ℕ) {b : ℕ} {s : List ℕ} {c : Cursor} {n : ℕ} {w w′ : List ℕ} {r : At} where
   -- of both directions: the reasons of aborts
   pub user-abort : (d : ℕ) → v ≡ 0 → Runs b (reasonAt 37 4 s) s c n w w′ r → Runs b (alternativeAt d v down up s) s c n w w′ r
-  unfolding alternativeAt reasonAt readChoice highest ends
+  unfolding alternativeAt reasonAt readChoice highest
   user-abort zero q x = rw q x
   user-abort (suc d) q x = rw q x
 
   pub provider-abort : (d : ℕ) → v ≡ 1 → Runs b (reasonAt 38 5 s) s c n w w′ r → Runs b (alternativeAt d v down up s) s c n w w′ r
-  unfolding alternativeAt reasonAt readChoice highest ends
+  unfolding alternativeAt reasonAt readChoice highest
   provider-abort zero q x = rw q x
   provider-abort (suc d) q x = rw q x
 
@@ -115,7 +114,7 @@ module _ (v : ℕ) (down up : List ℕ) {b : ℕ} {s : List ℕ} {c : Cursor} {n
   up-forward q x = rw q x
 
   pub up-response : v ≡ 5 → Runs b (reasonAt 39 6 s) s c n w w′ r → Runs b (alternativeAt 1 v down up s) s c n w w′ r
-  unfolding alternativeAt reasonAt readChoice highest ends
+  unfolding alternativeAt reasonAt readChoice highest
   up-response q x = rw q x
 
 -- an index that no alternative has

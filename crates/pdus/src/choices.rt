@@ -3,7 +3,7 @@ ghost use mathlib.Core.List.{[]};
 ghost use mathlib.Core.Path.{_≡_};
 ghost use Prim.Native.Nat.{_≤_, _<_, _^_};
 ghost use lib.ListN.{length};
-ghost use Rattle.cursor.specs.Numbers.{lowest};
+ghost use Rattle.cursor.specs.Ranges.{Listed};
 ghost use Rattle.pdus.specs.Pdus.{reasonAt, startAt, extensionAt, alternativeAt, indexBits, pduAt};
 ghost use Rattle.runs.specs.Runs.{Runs};
 use super::forward::read_forward;
@@ -16,6 +16,7 @@ use cursor::place::presence;
 use cursor::place::stop;
 use cursor::ranges::FORWARD_RESPONSE;
 use cursor::ranges::PROVIDER_ABORT_REASON;
+use cursor::ranges::Range;
 use cursor::ranges::SIDE;
 use cursor::ranges::USER_ABORT_REASON;
 use message::fields::maybe_number_field;
@@ -25,11 +26,11 @@ use small::names::read_reason;
 use small::telling::tell_name;
 
 // The reason of an abort or of a forward response.
-fn reason_part(s: &[u8], words: &mut [u64], n: usize, c: Cursor, row: usize, tag: u64) -> At
-    requires { ⌜ (row < 58) × (lowest row ≡ 0) × (n < 2 ^ 31) ⌝ }
-    ensures { λ r. ⌜ Runs 1 (reasonAt row tag (now (s .entry))) (now (s .entry)) c n (now (words .entry)) (now (words .exit)) r ⌝ }
+fn reason_part(s: &[u8], words: &mut [u64], n: usize, c: Cursor, range: Range, tag: u64) -> At
+    requires { ⌜ Listed range × (range .lo ≡ 0) × (n < 2 ^ 31) ⌝ }
+    ensures { λ r. ⌜ Runs 1 (reasonAt (range .row) tag (now (s .entry))) (now (s .entry)) c n (now (words .entry)) (now (words .exit)) r ⌝ }
 {
-    let g = read_reason(s, c, row);
+    let g = read_reason(s, c, range);
     let d = g.c;
     if d.why != 0 {
         return At { n: n, c: d };

@@ -14,8 +14,8 @@ use Rattle.cursor.specs.declared.place.Got.{Got}
 use Rattle.cursor.specs.declared.texts.TextAt.{TextAt}
 use Rattle.cursor.specs.Place.{Pulls, Opens, Takes}
 use Rattle.cursor.specs.Formats.{Maybe}
-use Rattle.cursor.specs.Ranges.{ends}
 use Rattle.cursor.specs.Numbers.{lowest, highest}
+use Rattle.cursor.specs.Ranges.{rowAt}
 use Rattle.cursor.specs.Texts.{SizeRow, Texts}
 use Rattle.cursor.proofs.ChoiceLaws.{takes-index}
 use Rattle.cursor.proofs.FormatLaws.{allRead, takes-opened, fields-must, fields-last-may, opened-inside, last-bit, takes-back}
@@ -31,28 +31,28 @@ pub held-none : {s : List ℕ} → Held s (record { at = 0; len = 0 })
 held-none = record { few = omega arith; there = record { there = omega arith; fits = omega arith } }
 
 -- the rows of the sizes
-pub fix-size : SizeRow 45
-unfolding lowest highest ends
+pub fix-size : SizeRow (rowAt 45)
+unfolding lowest highest
 fix-size = record { listed = omega arith; some = omega arith; ordered = omega arith; most = omega arith }
 
-pub navaid-size : SizeRow 46
-unfolding lowest highest ends
+pub navaid-size : SizeRow (rowAt 46)
+unfolding lowest highest
 navaid-size = record { listed = omega arith; some = omega arith; ordered = omega arith; most = omega arith }
 
-pub airport-size : SizeRow 47
-unfolding lowest highest ends
+pub airport-size : SizeRow (rowAt 47)
+unfolding lowest highest
 airport-size = record { listed = omega arith; some = omega arith; ordered = omega arith; most = omega arith }
 
-pub procedure-size : SizeRow 48
-unfolding lowest highest ends
+pub procedure-size : SizeRow (rowAt 48)
+unfolding lowest highest
 procedure-size = record { listed = omega arith; some = omega arith; ordered = omega arith; most = omega arith }
 
-pub transition-size : SizeRow 49
-unfolding lowest highest ends
+pub transition-size : SizeRow (rowAt 49)
+unfolding lowest highest
 transition-size = record { listed = omega arith; some = omega arith; ordered = omega arith; most = omega arith }
 
-pub flight-size : SizeRow 50
-unfolding lowest highest ends
+pub flight-size : SizeRow (rowAt 50)
+unfolding lowest highest
 flight-size = record { listed = omega arith; some = omega arith; ordered = omega arith; most = omega arith }
 
 ---------------------------------------------------------------- one presence bit, and what it is of last

@@ -12,7 +12,6 @@ use Rattle.cursor.specs.declared.place.Cursor.{Cursor}
 use Rattle.cursor.specs.declared.place.Got.{Got}
 use Rattle.cursor.specs.declared.texts.TextAt.{TextAt}
 use Rattle.cursor.specs.Place.{stopped, Pulls}
-use Rattle.cursor.specs.Ranges.{ends}
 use Rattle.cursor.specs.Numbers.{lowest, highest}
 use Rattle.cursor.specs.Texts.{Texts}
 use Rattle.cursor.proofs.ChoiceLaws.{takes-index, takes-unlisted}
@@ -29,15 +28,15 @@ alts = message.named 31 5 ∥ message.named 32 4 ∥ message.ia5 33 4 4 ∥ mess
 
 module _ {s : List ℕ} {c : Cursor} (g : Got) (p : Pulls s c 3 g) where
   pub position-fix : g .v ≡ 0 → (r : NamedAt) → NamedPlaces 45 s (g .c) r → Positions s c (record { position = Fix (r .named); c = r .c })
-  unfolding readChoice width widthIn encoding.highest count lowest highest ends
+  unfolding readChoice width widthIn encoding.highest count lowest highest
   position-fix z r h = record { reads = takes-index 30 alts 0 _ g p z (λ x u q. refl) (h .reads 31); held = h .held }
 
   pub position-navaid : g .v ≡ 1 → (r : NamedAt) → NamedPlaces 46 s (g .c) r → Positions s c (record { position = Navaid (r .named); c = r .c })
-  unfolding readChoice width widthIn encoding.highest count lowest highest ends
+  unfolding readChoice width widthIn encoding.highest count lowest highest
   position-navaid z r h = record { reads = takes-index 30 alts 1 _ g p z (λ x u q. refl) (h .reads 32); held = h .held }
 
   pub position-airport : g .v ≡ 2 → (r : TextAt) → Texts 47 s (g .c) r → Positions s c (record { position = Airport (r .text); c = r .c })
-  unfolding readChoice width widthIn encoding.highest count lowest highest ends
+  unfolding readChoice width widthIn encoding.highest count lowest highest
   position-airport z r h = record { reads = takes-index 30 alts 2 _ g p z (λ x u q. refl) (h .text 33); held = held-text h }
 
   pub position-coordinates : g .v ≡ 3 → (r : PairAt) → Pairs s (g .c) r → Positions s c (record { position = Coordinates (r .pair); c = r .c })

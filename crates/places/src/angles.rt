@@ -1,6 +1,5 @@
 // Latitude and longitude: a form, one to three numbers, and a side. They differ in their ranges and tags alone.
-ghost use mathlib.Core.Path.{_≡_};
-ghost use Prim.Native.Nat.{_<_};
+ghost use Rattle.cursor.specs.Ranges.{Listed};
 ghost use Rattle.places.specs.Angles.{Forms, Angles, MaybeAngles, Pairs, MaybePairs};
 use cursor::numbers::ranged;
 use cursor::place::Cursor;
@@ -13,6 +12,7 @@ use cursor::ranges::LATITUDE_THOUSANDTHS;
 use cursor::ranges::LONGITUDE_DEGREES;
 use cursor::ranges::LONGITUDE_THOUSANDTHS;
 use cursor::ranges::MINUTES;
+use cursor::ranges::Range;
 use cursor::ranges::SIDE;
 
 // Form 0: thousandths of a degree; 1: degrees and hundredths of a minute; 2: degrees, minutes and seconds.
@@ -69,10 +69,10 @@ pub struct MaybePairAt {
     pub c: Cursor,
 }
 
-// The form and its numbers, by the rows of the thousandths and of the degrees.
-fn read_form(s: &[u8], c: Cursor, thousandths: usize, degrees: usize) -> FormAt
-    requires { ⌜ (thousandths < 58) × (degrees < 58) ⌝ }
-    ensures { λ r. ⌜ Forms thousandths degrees (now (s .entry)) c r ⌝ }
+// The form and its numbers, by the ranges of the thousandths and of the degrees.
+fn read_form(s: &[u8], c: Cursor, thousandths: Range, degrees: Range) -> FormAt
+    requires { ⌜ Listed thousandths × Listed degrees ⌝ }
+    ensures { λ r. ⌜ Forms (thousandths .row) (degrees .row) (now (s .entry)) c r ⌝ }
 {
     let index = bits(s, c, 2);
     let f = index.v;
@@ -122,9 +122,9 @@ fn read_form(s: &[u8], c: Cursor, thousandths: usize, degrees: usize) -> FormAt
     FormAt { form: form, c: end }
 }
 
-fn read_angle(s: &[u8], c: Cursor, thousandths: usize, degrees: usize) -> AngleAt
-    requires { ⌜ (thousandths < 58) × (degrees < 58) ⌝ }
-    ensures { λ r. ⌜ Angles thousandths degrees (now (s .entry)) c r ⌝ }
+fn read_angle(s: &[u8], c: Cursor, thousandths: Range, degrees: Range) -> AngleAt
+    requires { ⌜ Listed thousandths × Listed degrees ⌝ }
+    ensures { λ r. ⌜ Angles (thousandths .row) (degrees .row) (now (s .entry)) c r ⌝ }
 {
     let form = read_form(s, c, thousandths, degrees);
     let side = ranged(s, form.c, SIDE);
@@ -144,11 +144,11 @@ fn read_maybe_angle(
     s: &[u8],
     c: Cursor,
     has: u64,
-    thousandths: usize,
-    degrees: usize,
+    thousandths: Range,
+    degrees: Range,
 ) -> MaybeAngleAt
-    requires { ⌜ (thousandths < 58) × (degrees < 58) ⌝ }
-    ensures { λ r. ⌜ MaybeAngles has thousandths degrees (now (s .entry)) c r ⌝ }
+    requires { ⌜ Listed thousandths × Listed degrees ⌝ }
+    ensures { λ r. ⌜ MaybeAngles has (thousandths .row) (degrees .row) (now (s .entry)) c r ⌝ }
 {
     if has == 0 {
         let form = Form {

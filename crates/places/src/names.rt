@@ -10,6 +10,7 @@ use cursor::ranges::FIX_SIZE;
 use cursor::ranges::NAVAID_SIZE;
 use cursor::ranges::PROCEDURE;
 use cursor::ranges::PROCEDURE_SIZE;
+use cursor::ranges::Range;
 use cursor::ranges::TRANSITION_SIZE;
 use cursor::texts::Text;
 use cursor::texts::ia5;
@@ -48,13 +49,13 @@ pub struct ProcedureAt {
     pub c: Cursor,
 }
 
-// A name whose size is of the row's range, and its coordinates, which may be absent.
-pub fn read_named(s: &[u8], c: Cursor, row: usize) -> NamedAt
-    requires { ⌜ SizeRow row ⌝ }
-    ensures { λ r. ⌜ NamedPlaces row (now (s .entry)) c r ⌝ }
+// A name whose size is of the range, and its coordinates, which may be absent.
+pub fn read_named(s: &[u8], c: Cursor, sizes: Range) -> NamedAt
+    requires { ⌜ SizeRow sizes ⌝ }
+    ensures { λ r. ⌜ NamedPlaces (sizes .row) (now (s .entry)) c r ⌝ }
 {
     let flags = presence(s, c, 1);
-    let name = ia5(s, flags.c, row);
+    let name = ia5(s, flags.c, sizes);
     let place = read_maybe_latlon(s, name.c, flags.v % 2);
     let text = name.text;
     let maybe = place.maybe;

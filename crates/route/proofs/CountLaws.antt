@@ -19,8 +19,8 @@ use Rattle.cursor.specs.declared.place.Cursor.{Cursor}
 use Rattle.cursor.specs.declared.place.Got.{Got}
 use Rattle.cursor.specs.Place.{number, marked, Inside, Pulls, Led, Reads}
 use Rattle.cursor.specs.Place as place
-use Rattle.cursor.specs.Ranges.{ends}
 use Rattle.cursor.specs.Numbers.{lowest, highest}
+use Rattle.cursor.specs.Ranges.{rowAt}
 use Rattle.cursor.specs.Texts.{Sized, SizeRow}
 use Rattle.cursor.proofs.Laws.{led-inside, pulled-inside, reads-ok, marked-nil}
 use Rattle.runs.specs.declared.At.{At}
@@ -136,8 +136,8 @@ module _ {k : ℕ} {s : List ℕ} {c : Cursor} {g : Got} (z : Sized k s c g) whe
 
 ---------------------------------------------------------------- the number of the clearances
 
-pub clearances-size : SizeRow 55
-unfolding lowest highest ends
+pub clearances-size : SizeRow (rowAt 55)
+unfolding lowest highest
 clearances-size = record { listed = omega arith; some = omega arith; ordered = omega arith; most = omega arith }
 
 marked-inside : (s : List ℕ) (c d : Cursor) (m : ℕ) → d ≡ marked c m → Inside s c → Inside s d
@@ -184,7 +184,7 @@ module _ {s : List ℕ} {c : Cursor} (g : Got) (x : Pulls s c 1 g) where
 
     module _ (n : h .v ≡ 0 → ⊥) {m : Got} (t : Sized 55 s (h .c) m) where
       counted : (v : ℕ) → v ≤ 2 → (Inside s (h .c) → h .c .why ≡ 0 → m .c .why ≡ 0 → v ≡ m .v) → Counts s c (record { v = v; c = m .c })
-      unfolding lowest highest ends
+      unfolding lowest highest
       counted v l q =
           record {
             then = λ K o. rooted K (runs-set (λ e p. K 0 e p) (λ e p. sized (bitOf s) e p 1 2 (λ u r. K u e r)) (h .v) n (runs-sized-as t K v q o));
@@ -196,7 +196,7 @@ module _ {s : List ℕ} {c : Cursor} (g : Got) (x : Pulls s c 1 g) where
       counts-one o = counted 1 (omega arith) (λ i k u. sym o)
 
       pub counts-two : (m .v ≡ 1 → ⊥) → Counts s c (record { v = 2; c = m .c })
-      unfolding lowest highest ends width widthIn
+      unfolding lowest highest width widthIn
       counts-two o = counted 2 (omega arith) (λ i k u. omega (arith, sized-value t i k u, uint-one (bitOf s) (h .c .at), bitOf-lt s (h .c .at)))
 
 ---------------------------------------------------------------- the reading

@@ -15,8 +15,8 @@ use Rattle.atn.specs.Messages as message
 use Rattle.cursor.specs.declared.place.Cursor.{Cursor}
 use Rattle.cursor.specs.declared.place.Got.{Got}
 use Rattle.cursor.specs.Place.{stopped, Pulls, Reads, Takes}
+use Rattle.cursor.specs.Ranges.{rowAt}
 use Rattle.cursor.specs.Texts.{textRecs, SizeRow, Sized}
-use Rattle.cursor.specs.Ranges.{ends}
 use Rattle.cursor.specs.Numbers.{lowest, highest}
 use Rattle.cursor.proofs.Laws.{reads-then, reads-ok, marked-nil}
 use Rattle.cursor.proofs.ChoiceLaws.{takes-index, takes-unlisted}
@@ -34,12 +34,12 @@ use Rattle.route.specs.Legs.{bearing, ranging, routeInformation, bearing
 use Rattle.route.proofs.PartLaws.{reads-any, reads-stay, part-none, part-within, part-same, part-then}
 use Rattle.route.proofs.ThenLaws.{times-end}
 
-pub route-size : SizeRow 51
-unfolding lowest highest ends
+pub route-size : SizeRow (rowAt 51)
+unfolding lowest highest
 route-size = record { listed = omega arith; some = omega arith; ordered = omega arith; most = omega arith }
 
-pub legs-size : SizeRow 56
-unfolding lowest highest ends
+pub legs-size : SizeRow (rowAt 56)
+unfolding lowest highest
 legs-size = record { listed = omega arith; some = omega arith; ordered = omega arith; most = omega arith }
 
 -- behind a stop nothing goes on
@@ -139,5 +139,5 @@ part-sized {k = k} K {s} {c} {g} z x =
 
 pub legs-all : {s : List ℕ} {c : Cursor} {g : Got} {n i : ℕ} {w w′ : List ℕ} {r : At} → Sized 56 s c g → i ≡ g .v → Part (158 * i) (legsOf s i) s (g .c) n w w′ r
     → Part 80896 (λ e p. read (many 1 128 message.leg) (0, 0) (bitOf s) e p) s c n w w′ r
-unfolding read lowest highest ends
+unfolding read lowest highest
 legs-all {s} z q x = part-within (part-sized (legsOf s) z (rw q at x)) 80896 (omega (arith, z .few))

@@ -12,7 +12,6 @@ use Rattle.cursor.specs.declared.place.Cursor.{Cursor}
 use Rattle.cursor.specs.declared.place.Got.{Got}
 use Rattle.cursor.specs.declared.texts.TextAt.{TextAt}
 use Rattle.cursor.specs.Place.{Pulls, Takes}
-use Rattle.cursor.specs.Ranges.{ends}
 use Rattle.cursor.specs.Numbers.{lowest, highest, rowsThen, Ranged}
 use Rattle.cursor.specs.Texts.{Channel, channelRecs}
 use Rattle.cursor.proofs.ChoiceLaws.{takes-index, takes-row}
@@ -40,7 +39,7 @@ channel-recs (suc (suc (suc k))) s v n h = refl
 module _ {s : List ℕ} {c : Cursor} (g : Got) (p : Pulls s c 2 g) where
   pub frequency-number : (r : Got) → g .v < 3 → Ranged (25 + g .v) s (g .c) r
       → Frequencies s c (record { frequency = record { kind = g .v; number = r .v; channel = record { at = 0; len = 0 } }; c = r .c })
-  unfolding frequencyRecs lowest highest ends width widthIn encoding.highest count
+  unfolding frequencyRecs lowest highest width widthIn encoding.highest count
   frequency-number r l h =
       let y : Takes message.frequency s c (r .c) (λ n. rec 57 n (g .v) 0 ∷ rec 58 n (r .v) 0 ∷ []) = takes-row 57 58 25 3 behind g p r l h in
       record {
@@ -49,7 +48,7 @@ module _ {s : List ℕ} {c : Cursor} (g : Got) (p : Pulls s c 2 g) where
       }
 
   pub frequency-channel : (r : TextAt) → 3 ≤ g .v → Channel s (g .c) r → Frequencies s c (record { frequency = record { kind = 3; number = 0; channel = r .text }; c = r .c })
-  unfolding readChoice frequencyRecs lowest highest ends width widthIn encoding.highest count
+  unfolding readChoice frequencyRecs lowest highest width widthIn encoding.highest count
   frequency-channel r l h =
       record {
         reads = takes-index 57 (rowsThen 58 25 3 behind) 3 _ (record { v = 3; c = g .c }) (pulls-last 2 3 g refl p l) refl (λ x u q. refl) (h .channel 59);

@@ -4,6 +4,7 @@ use cursor::numbers::ranged;
 use cursor::place::Cursor;
 use cursor::place::bits;
 use cursor::ranges::FREQUENCY_0;
+use cursor::ranges::range_at;
 use cursor::texts::Text;
 use cursor::texts::channel;
 
@@ -25,7 +26,8 @@ pub fn read_frequency(s: &[u8], c: Cursor) -> FrequencyAt
     let index = bits(s, c, 2);
     let kind = index.v;
     if kind < 3 {
-        let number = ranged(s, index.c, FREQUENCY_0 + kind as usize);
+        let range = range_at(FREQUENCY_0.row + kind as usize);
+        let number = ranged(s, index.c, range);
         let end = number.c;
         let none = Text { at: 0, len: 0 };
         let frequency = Frequency {

@@ -1,7 +1,6 @@
 // Names and reasons with an extension marker. An extended one is told as value 0 and second number 1, and what follows the bit is not read.
 ghost use mathlib.Core.Path.{_≡_};
-ghost use Prim.Native.Nat.{_<_};
-ghost use Rattle.cursor.specs.Numbers.{lowest};
+ghost use Rattle.cursor.specs.Ranges.{Listed};
 ghost use Rattle.small.specs.Readers.{Names, Reasons, Triples};
 use cursor::numbers::named;
 use cursor::numbers::ranged;
@@ -11,6 +10,7 @@ use cursor::place::mark;
 use cursor::ranges::CLEARANCE_TYPE;
 use cursor::ranges::ERROR_INFORMATION;
 use cursor::ranges::FACILITY_FUNCTION;
+use cursor::ranges::Range;
 use cursor::ranges::SPEED_TYPE;
 use cursor::ranges::TRAFFIC_TYPE;
 
@@ -24,14 +24,14 @@ pub struct NameAt {
     pub c: Cursor,
 }
 
-// A name of the row's range; a number above it has no name and is badly formed.
-fn read_name(s: &[u8], c: Cursor, row: usize) -> NameAt
-    requires { ⌜ (row < 58) × (lowest row ≡ 0) ⌝ }
-    ensures { λ r. ⌜ Names row (now (s .entry)) c r ⌝ }
+// A name of the range; a number above it has no name and is badly formed.
+fn read_name(s: &[u8], c: Cursor, range: Range) -> NameAt
+    requires { ⌜ Listed range × (range .lo ≡ 0) ⌝ }
+    ensures { λ r. ⌜ Names (range .row) (now (s .entry)) c r ⌝ }
 {
     let extension = bits(s, c, 1);
     if extension.v == 0 {
-        let g = named(s, extension.c, row);
+        let g = named(s, extension.c, range);
         let end = g.c;
         let name = Name {
             value: g.v,
@@ -47,14 +47,14 @@ fn read_name(s: &[u8], c: Cursor, row: usize) -> NameAt
     NameAt { name: name, c: end }
 }
 
-// A reason of the row's range, which is told above the range too, with mark 1.
-pub fn read_reason(s: &[u8], c: Cursor, row: usize) -> NameAt
-    requires { ⌜ (row < 58) × (lowest row ≡ 0) ⌝ }
-    ensures { λ r. ⌜ Reasons row (now (s .entry)) c r ⌝ }
+// A reason of the range, which is told above the range too, with mark 1.
+pub fn read_reason(s: &[u8], c: Cursor, range: Range) -> NameAt
+    requires { ⌜ Listed range × (range .lo ≡ 0) ⌝ }
+    ensures { λ r. ⌜ Reasons (range .row) (now (s .entry)) c r ⌝ }
 {
     let extension = bits(s, c, 1);
     if extension.v == 0 {
-        let g = ranged(s, extension.c, row);
+        let g = ranged(s, extension.c, range);
         let end = g.c;
         let name = Name {
             value: g.v,

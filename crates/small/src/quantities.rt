@@ -10,6 +10,7 @@ use cursor::place::stop;
 use cursor::ranges::DEGREES_0;
 use cursor::ranges::LEVEL_0;
 use cursor::ranges::SPEED_0;
+use cursor::ranges::range_at;
 
 pub struct Quantity {
     pub kind: u64,
@@ -29,7 +30,8 @@ fn read_quantity(s: &[u8], c: Cursor, width: usize, first: usize, kinds: u64) ->
     let kind = bits(s, c, width);
     let k = kind.v;
     if k < kinds {
-        let number = ranged(s, kind.c, first + k as usize);
+        let range = range_at(first + k as usize);
+        let number = ranged(s, kind.c, range);
         let end = number.c;
         let quantity = Quantity {
             kind: k,
@@ -51,17 +53,17 @@ fn read_quantity(s: &[u8], c: Cursor, width: usize, first: usize, kinds: u64) ->
 pub fn read_speed(s: &[u8], c: Cursor) -> QuantityAt
     ensures { λ r. ⌜ Speeds (now (s .entry)) c r ⌝ }
 {
-    read_quantity(s, c, 3, SPEED_0, 7)
+    read_quantity(s, c, 3, SPEED_0.row, 7)
 }
 
 pub fn read_level_type(s: &[u8], c: Cursor) -> QuantityAt
     ensures { λ r. ⌜ Levels (now (s .entry)) c r ⌝ }
 {
-    read_quantity(s, c, 2, LEVEL_0, 4)
+    read_quantity(s, c, 2, LEVEL_0.row, 4)
 }
 
 pub fn read_degrees(s: &[u8], c: Cursor) -> QuantityAt
     ensures { λ r. ⌜ Degrees (now (s .entry)) c r ⌝ }
 {
-    read_quantity(s, c, 1, DEGREES_0, 2)
+    read_quantity(s, c, 1, DEGREES_0.row, 2)
 }

@@ -1,16 +1,18 @@
 // Numbers of a range. The bits behind the number are 0.
-ghost use Prim.Native.Nat.{_≤_, _<_};
+ghost use Prim.Native.Nat.{_≤_};
 ghost use lib.ListN.{length};
+ghost use Rattle.cursor.specs.Ranges.{Listed};
 use super::line::print;
 use super::line::start;
 use cursor::numbers::ranged;
 use cursor::ranges::LEVEL_0;
+use cursor::ranges::Range;
 use cursor::ranges::YEAR;
 
-fn case(kind: &[u8], frame: &[u8], row: usize)
-    requires { ⌜ (length (now frame) ≤ 8192) × (row < 58) ⌝ }
+fn case(kind: &[u8], frame: &[u8], range: Range)
+    requires { ⌜ (length (now frame) ≤ 8192) × Listed range ⌝ }
 {
-    let g = ranged(frame, start(frame), row);
+    let g = ranged(frame, start(frame), range);
     print(kind, frame, g);
 }
 

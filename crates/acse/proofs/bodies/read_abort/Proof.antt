@@ -1,6 +1,5 @@
 use mathlib.Core.Path.{refl}
 use Rattle.cursor.specs.Numbers.{lowest, highest}
-use Rattle.cursor.specs.Ranges.{ends}
 use Rattle.acse.proofs.FormatLaws.{keeps-root, keeps-unread}
 use Rattle.acse.proofs.SequenceLaws.{keeps-first, keeps-both}
 use Rattle.acse.proofs.BodyLaws.{keeps-alone}
@@ -12,19 +11,19 @@ returns : tie.Need-returns
 returns c = rw (c .unread .ensures) (keeps-unread (c .before .before .before .bits .ensures) (c .before .if1 .taken) refl)
 
 reason-requires : tie.Need-reason-requires
-unfolding lowest ends
+unfolding lowest
 reason-requires c κs = search needs
 
 returns-2 : tie.Need-returns-2
-unfolding highest ends
+unfolding highest
 returns-2 c = keeps-alone (c .before .before .before .reason .result) (c .alone .ensures) (keeps-root (c .before .before .before .before .before .before .before .bits .ensures) (c .before .before .before .before .before .if1 .left) (keeps-first (c .before .before .before .before .bits2 .ensures) (c .before .if2 .taken) (c .before .before .before .reason .ensures)))
 
 reason-requires-2 : tie.Need-reason-requires-2
-unfolding lowest ends
+unfolding lowest
 reason-requires-2 c κs = search needs
 
 returns-3 : tie.Need-returns-3
-unfolding highest ends
+unfolding highest
 returns-3 c = keeps-root (c .before .before .before .before .before .before .before .before .before .before .bits .ensures) (c .before .before .before .before .before .before .before .before .if1 .left) (keeps-both (c .before .before .before .before .before .before .before .bits2 .ensures) (c .before .before .before .before .if2 .left) (c .before .before .before .before .before .before .reason .ensures) (c .before .before .before .reason2 .ensures))
 
 pub read-abort-spec : {M : Type 1} → statement M

@@ -1,12 +1,11 @@
 use borrow.Author.Needs.{needs}
 use Rattle.cursor.specs.Numbers.{highest}
-use Rattle.cursor.specs.Ranges.{ends}
 use Rattle.arguments.specs.Arguments.{argumentBody, argumentRecs, HeldArgument}
 use Rattle.arguments.proofs.each.facility_function.Statement.{statement}
 use Rattle.arguments.proofs.each.facility_function.Tie as tie
 
 returns : tie.Need-returns
-unfolding argumentBody argumentRecs HeldArgument highest ends
+unfolding argumentBody argumentRecs HeldArgument highest
 returns c = record { reads = c .before .before .read-facility-function .ensures .reads 64; held = tt }
 
 pub facility-function-spec : {M : Type 1} → statement M

@@ -1,12 +1,11 @@
 use borrow.Author.Needs.{needs}
 use Rattle.cursor.specs.Numbers.{highest}
-use Rattle.cursor.specs.Ranges.{ends}
 use Rattle.arguments.specs.Arguments.{argumentBody, argumentRecs, HeldArgument}
 use Rattle.arguments.proofs.each.traffic_type.Statement.{statement}
 use Rattle.arguments.proofs.each.traffic_type.Tie as tie
 
 returns : tie.Need-returns
-unfolding argumentBody argumentRecs HeldArgument highest ends
+unfolding argumentBody argumentRecs HeldArgument highest
 returns c = record { reads = c .before .before .read-traffic-type .ensures .reads 61; held = tt }
 
 pub traffic-type-spec : {M : Type 1} → statement M

@@ -1,5 +1,4 @@
 use mathlib.Core.Path.{refl}
-use Rattle.cursor.specs.Ranges.{ends}
 use Rattle.cursor.specs.Numbers.{lowest, highest}
 use Rattle.atn.specs.Reading.{flags}
 use Rattle.cursor.proofs.FormatLaws.{allRead}
@@ -9,7 +8,7 @@ use Rattle.cm.proofs.logon.etd_time.Statement.{statement}
 use Rattle.cm.proofs.logon.etd_time.Tie as tie
 
 returns : tie.Need-returns
-unfolding lowest highest ends flags allRead
+unfolding lowest highest flags allRead
 returns c = does-plain refl refl (does-must (c .before .before .before .before .before .before .number .ensures) (does-last (c .before .before .number2 .ensures)))
 
 pub etd-time-spec : {M : Type 1} → statement M

@@ -1,5 +1,4 @@
 use native.Mathlib.Omega.{arith}
-use Rattle.cursor.specs.Ranges.{ends}
 use Rattle.cursor.specs.Numbers.{lowest, highest}
 use Rattle.cm.proofs.PartLaws.{row-of-flights, row-of-airports}
 use Rattle.cm.proofs.DoesLaws.{does-length}
@@ -24,7 +23,7 @@ maybe-etd-requires : tie.Need-maybe-etd-requires
 maybe-etd-requires c κs = omega (arith, c .before .before .before .before .before .before .before .before .before .before .before .before .before .before .before .before .before .before .before .before .before .before .before .before .before .before .before .before .before .before .pre, c .before .before .before .before .before .before .before .before .before .before .before .before .before .before .before .before .before .before .before .before .before .before .before .before .letters .ensures .told .few, c .before .before .before .before .before .before .before .before .before .before .before .before .before .before .before .before .before .before .before .before .long-tsap .ensures .told .few, c .before .before .before .before .before .before .before .before .before .before .before .before .before .before .before .before .maybe-entries .ensures .told .few, c .before .before .before .before .before .before .before .before .before .before .before .before .maybe-entries2 .ensures .told .few, c .before .before .before .before .before .before .before .before .before .maybe-facility .ensures (c .before .before .before .before .before .before .before .before .before .before .before .before .before .before .before .before .before .before .before .before .before .before .before .before .before .before .before .before .before .before .args .s .now) (c .before .before .before .before .before .before .before .before .before .before .before .before .before .before .before .before .before .before .before .before .before .before .before .before .before .before .before .before .before .before .args .words .now) .told .few, c .before .before .before .before .before .before .before .maybe-letters .ensures .told .few, c .before .before .before .maybe-letters2 .ensures .told .few)
 
 returns : tie.Need-returns
-unfolding lowest highest ends
+unfolding lowest highest
 returns c = request-does (c .before .before .before .before .before .before .before .before .before .before .before .before .before .before .before .before .before .before .before .before .before .before .before .before .before .before .before .before .before .before .presence .result) (c .before .before .before .before .before .before .before .before .before .before .before .before .before .before .before .before .before .before .before .before .before .before .before .before .before .before .before .before .before .before .presence .ensures) (c .before .before .before .before .before .before .before .before .before .before .before .before .before .before .before .before .before .before .before .before .before .before .before .before .before .before .before .letters .ensures) (c .before .before .before .before .before .before .before .before .before .before .before .before .before .before .before .before .before .before .before .before .before .before .before .long-tsap .ensures) (c .before .before .before .before .before .before .before .before .before .before .before .before .before .before .before .before .before .before .before .maybe-entries .ensures) (c .before .before .before .before .before .before .before .before .before .before .before .before .before .before .before .maybe-entries2 .ensures) (c .before .before .before .before .before .before .before .before .before .before .before .before .maybe-facility .ensures (c .before .before .before .before .before .before .before .before .before .before .before .before .before .before .before .before .before .before .before .before .before .before .before .before .before .before .before .before .before .before .before .before .before .args .s .now) (c .before .before .before .before .before .before .before .before .before .before .before .before .before .before .before .maybe-entries2 .last .0)) (c .before .before .before .before .before .before .before .before .before .before .maybe-letters .ensures) (c .before .before .before .before .before .before .maybe-letters2 .ensures) (c .before .before .maybe-etd .ensures)
 
 same-length : tie.Need-same-length

@@ -4,7 +4,6 @@ use Rattle.atn.specs.Reading.{readChoice}
 use Rattle.atn.specs.Format.{num}
 use Rattle.atn.specs.Messages.{cmLogonRequest, cmAbort}
 use Rattle.atn.specs.Tags as tag
-use Rattle.cursor.specs.Ranges.{ends}
 use Rattle.cursor.specs.Numbers.{lowest, highest}
 use Rattle.cm.proofs.PduLaws.{does-alternative, does-unlisted, aircraft-unlisted}
 use borrow.Author.Needs.{needs}
@@ -16,15 +15,15 @@ unfolding readChoice
 returns c = does-alternative 3272 cmLogonRequest (omega arith) (λ x u q. rw (c .before .before .before .before .if1 .taken)) (c .before .before .logon-request .ensures)
 
 returns-2 : tie.Need-returns-2
-unfolding readChoice lowest highest ends
+unfolding readChoice lowest highest
 returns-2 c = does-alternative 3272 (num tag.contact-response 0 1) (omega arith) (λ x u q. rw (c .before .before .before .before .if2 .taken)) (c .before .before .number .ensures)
 
 reason-requires : tie.Need-reason-requires
-unfolding lowest ends
+unfolding lowest
 reason-requires c κs = (search needs, search needs, refl)
 
 returns-3 : tie.Need-returns-3
-unfolding readChoice highest ends
+unfolding readChoice highest
 returns-3 c = does-alternative 3272 cmAbort (omega arith) (λ x u q. rw (c .before .before .before .before .if3 .taken)) (c .before .before .reason .ensures)
 
 returns-4 : tie.Need-returns-4

@@ -4,7 +4,6 @@ use Rattle.atn.specs.Reading.{readChoice}
 use Rattle.atn.specs.Format.{num}
 use Rattle.atn.specs.Messages.{cmLogonRequest, cmLogonResponse, cmAbort}
 use Rattle.atn.specs.Tags as tag
-use Rattle.cursor.specs.Ranges.{ends}
 use Rattle.cursor.specs.Numbers.{lowest, highest}
 use Rattle.cm.proofs.PduLaws.{does-alternative, does-lacking, does-unlisted, ground-response, ground-unlisted}
 use borrow.Author.Needs.{needs}
@@ -23,15 +22,15 @@ unfolding readChoice
 returns-3 c = does-alternative 3272 cmLogonRequest (omega arith) (λ x u q. rw (c .before .before .before .before .if3 .taken)) (c .before .before .logon-request .ensures)
 
 reason-requires : tie.Need-reason-requires
-unfolding lowest ends
+unfolding lowest
 reason-requires c κs = (search needs, search needs, refl)
 
 returns-4 : tie.Need-returns-4
-unfolding readChoice highest ends
+unfolding readChoice highest
 returns-4 c = does-alternative 3272 cmAbort (omega arith) (λ x u q. rw (c .before .before .before .before .if4 .taken)) (c .before .before .reason .ensures)
 
 returns-5 : tie.Need-returns-5
-unfolding readChoice lowest highest ends
+unfolding readChoice lowest highest
 returns-5 c = does-alternative 3272 (num tag.cm-forward-response 0 2) (omega arith) (λ x u q. rw (c .before .before .before .before .if5 .taken)) (c .before .before .number .ensures)
 
 returns-6 : tie.Need-returns-6

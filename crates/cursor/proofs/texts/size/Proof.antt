@@ -6,24 +6,20 @@ use Rattle.cursor.proofs.texts.size.Statement.{statement}
 use Rattle.cursor.proofs.texts.size.Tie as tie
 
 bits-requires : tie.Need-bits-requires
-bits-requires c κs = omega (arith, size-narrow (c .before .before .pre) (c .range-at .ensures))
+bits-requires c κs = omega (arith, size-narrow (c .before .pre))
 
 add-v : tie.Need-add-v
-add-v c = omega (arith, size-lowest (c .before .before .before .before .before .pre) (c .before .before .before .range-at .ensures))
+add-v c = omega (arith, size-lowest (c .before .before .before .before .pre))
 
 returns : tie.Need-returns
 returns c =
-    let z = c .before .before .before .before .before .before .before .before .pre in
-    let r = c .before .before .before .before .before .before .range-at in
     let g = c .before .before .before .before .before .bits in
-    size-in z (r .ensures) (g .result) (g .ensures) refl (c .if1 .taken)
+    size-in (c .before .before .before .before .before .before .before .pre) (g .result) (g .ensures) refl (c .if1 .taken)
 
 returns-2 : tie.Need-returns-2
 returns-2 c =
-    let z = c .before .before .before .before .before .before .before .before .before .pre in
-    let r = c .before .before .before .before .before .before .before .range-at in
     let g = c .before .before .before .before .before .before .bits in
-    size-over z (r .ensures) (g .result) (g .ensures) refl (c .before .if1 .left) (c .mark .ensures)
+    size-over (c .before .before .before .before .before .before .before .before .pre) (g .result) (g .ensures) refl (c .before .if1 .left) (c .mark .ensures)
 
 pub size-spec : {M : Type 1} → statement M
-size-spec = tie.close (tie.spec (λ c κs. search needs) bits-requires add-v returns (λ c κs. search needs) returns-2)
+size-spec = tie.close (tie.spec bits-requires add-v returns (λ c κs. search needs) returns-2)

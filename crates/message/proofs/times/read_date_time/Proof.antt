@@ -1,14 +1,13 @@
 use mathlib.Core.Path.{refl}
 use borrow.Author.Needs.{needs}
 use Rattle.atn.specs.Reading.{flags}
-use Rattle.cursor.specs.Ranges.{ends}
 use Rattle.cursor.specs.Numbers.{lowest, highest}
 use Rattle.cursor.proofs.FormatLaws.{allRead, takes-plain, fields-must, fields-last}
 use Rattle.message.proofs.times.read_date_time.Statement.{statement}
 use Rattle.message.proofs.times.read_date_time.Tie as tie
 
 returns : tie.Need-returns
-unfolding lowest highest ends flags allRead
+unfolding lowest highest flags allRead
 returns c =
     record {
       takes =

@@ -3,7 +3,6 @@ use native.Mathlib.Omega.{arith}
 use borrow.Author.Needs.{needs}
 use Rattle.x691.specs.Encoding.{count}
 use Rattle.cursor.specs.Numbers.{lowest}
-use Rattle.cursor.specs.Ranges.{ends}
 use Rattle.records.proofs.Telling.{told-length}
 use Rattle.runs.proofs.RunLaws.{runs-within}
 use Rattle.pdus.proofs.PduLaws.{user-abort, provider-abort, up-start-or-send, up-forward, up-response, no-alternative}
@@ -11,15 +10,15 @@ use Rattle.pdus.proofs.choices.up_alternative.Statement.{statement}
 use Rattle.pdus.proofs.choices.up_alternative.Tie as tie
 
 reason-part-requires : tie.Need-reason-part-requires
-unfolding lowest ends
+unfolding lowest
 reason-part-requires c κs = (omega arith, refl, omega (arith, c .before .before .before .before .before .before .pre .1))
 
 reason-part-requires-2 : tie.Need-reason-part-requires-2
-unfolding lowest ends
+unfolding lowest
 reason-part-requires-2 c κs = (omega arith, refl, omega (arith, c .before .before .before .before .before .before .before .pre .1))
 
 reason-part-requires-3 : tie.Need-reason-part-requires-3
-unfolding lowest ends
+unfolding lowest
 reason-part-requires-3 c κs = (omega arith, refl, omega (arith, c .before .before .before .before .before .before .before .before .before .before .pre .1))
 
 read-protected-requires : tie.Need-read-protected-requires

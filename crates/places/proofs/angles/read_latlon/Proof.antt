@@ -1,6 +1,5 @@
 use mathlib.Core.Path.{refl}
 use borrow.Author.Needs.{needs}
-use Rattle.cursor.specs.Ranges.{ends}
 use Rattle.cursor.specs.Numbers.{lowest, highest}
 use Rattle.places.specs.Angles.{pairRecs}
 use Rattle.places.proofs.AngleLaws.{pair-reads}
@@ -8,7 +7,7 @@ use Rattle.places.proofs.angles.read_latlon.Statement.{statement}
 use Rattle.places.proofs.angles.read_latlon.Tie as tie
 
 returns : tie.Need-returns
-unfolding lowest highest ends pairRecs
+unfolding lowest highest pairRecs
 returns c = record { reads = pair-reads (c .before .before .before .before .before .before .before .presence .result) (c .before .before .before .before .before .before .before .presence .ensures) (c .before .before .before .before .before .read-maybe-angle .ensures .reads 35) (c .before .before .before .read-maybe-angle2 .ensures .reads 42) }
 
 pub read-latlon-spec : {M : Type 1} → statement M

@@ -1,7 +1,6 @@
 use mathlib.Core.Path.{refl}
 use native.Mathlib.Omega.{arith}
 use borrow.Author.Needs.{needs}
-use Rattle.cursor.specs.Ranges.{ends}
 use Rattle.cursor.specs.Numbers.{lowest, highest}
 use Rattle.cursor.proofs.FormatLaws.{maybe-none, maybe-some}
 use Rattle.places.specs.Names.{procedureRecs}
@@ -10,14 +9,14 @@ use Rattle.places.proofs.names.read_procedure.Statement.{statement}
 use Rattle.places.proofs.names.read_procedure.Tie as tie
 
 named-requires : tie.Need-named-requires
-unfolding lowest ends
+unfolding lowest
 named-requires c κs = (omega arith, refl)
 
 ia5-requires : tie.Need-ia5-requires
 ia5-requires c κs = procedure-size
 
 returns : tie.Need-returns
-unfolding lowest highest ends procedureRecs
+unfolding lowest highest procedureRecs
 returns c =
     record {
       reads = λ t u v. takes-two-then-maybe (c .before .before .before .before .before .before .presence .result) (c .before .before .before .before .before .before .presence .ensures) (c .before .before .before .before .before .named .ensures .name t) (c .before .before .before .before .ia5 .ensures .text u) (maybe-none _ (c .before .if1 .taken));
@@ -29,7 +28,7 @@ ia5-requires-2 : tie.Need-ia5-requires-2
 ia5-requires-2 c κs = transition-size
 
 returns-2 : tie.Need-returns-2
-unfolding lowest highest ends procedureRecs
+unfolding lowest highest procedureRecs
 returns-2 c =
     record {
       reads = λ t u v. takes-two-then-maybe (c .before .before .before .before .before .before .before .before .presence .result) (c .before .before .before .before .before .before .before .before .presence .ensures) (c .before .before .before .before .before .before .before .named .ensures .name t) (c .before .before .before .before .before .before .ia5 .ensures .text u) (maybe-some _ (c .before .before .before .if1 .left) (c .before .before .ia52 .ensures .text v));

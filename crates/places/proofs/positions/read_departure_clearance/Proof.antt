@@ -1,5 +1,4 @@
 use borrow.Author.Needs.{needs}
-use Rattle.cursor.specs.Ranges.{ends}
 use Rattle.cursor.specs.Numbers.{lowest, highest}
 use Rattle.places.specs.Positions.{departureRecs}
 use Rattle.places.proofs.NameLaws.{held-text, flight-size}
@@ -11,7 +10,7 @@ ia5-requires : tie.Need-ia5-requires
 ia5-requires c κs = flight-size
 
 returns : tie.Need-returns
-unfolding lowest highest ends departureRecs
+unfolding lowest highest departureRecs
 returns c =
     record {
       reads = takes-unread 71 72 (c .before .before .before .before .before .read-flag .ensures) (c .before .before .before .before .read-flag2 .ensures) (c .before .before .before .ia5 .ensures .text 70) (c .before .before .read-position .ensures .reads);

@@ -1,5 +1,4 @@
 use borrow.Author.Needs.{needs}
-use Rattle.cursor.specs.Ranges.{ends}
 use Rattle.cursor.specs.Numbers.{lowest, highest}
 use Rattle.places.proofs.NameLaws.{held-text}
 use Rattle.route.specs.Legs.{HeldLeg}
@@ -27,7 +26,7 @@ ia5-requires : tie.Need-ia5-requires
 ia5-requires c κs = route-size
 
 returns-5 : tie.Need-returns-5
-unfolding HeldLeg lowest highest ends
+unfolding HeldLeg lowest highest
 returns-5 c = record { reads = leg-designator (c .before .before .before .before .before .before .before .before .bits .result) (c .before .before .before .before .before .before .before .before .bits .ensures) _ (c .before .before .before .if5 .taken) (c .before .before .ia5 .ensures .text 101); held = held-text (c .before .before .ia5 .ensures) }
 
 returns-6 : tie.Need-returns-6

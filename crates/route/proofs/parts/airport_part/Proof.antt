@@ -1,5 +1,4 @@
 use native.Mathlib.Omega.{arith}
-use Rattle.cursor.specs.Ranges.{ends}
 use Rattle.cursor.specs.Numbers.{lowest, highest}
 use Rattle.records.proofs.Telling.{told-length}
 use Rattle.places.proofs.NameLaws.{airport-size}
@@ -14,7 +13,7 @@ ia5-requires : tie.Need-ia5-requires
 ia5-requires c κs = airport-size
 
 returns-2 : tie.Need-returns-2
-unfolding lowest highest ends
+unfolding lowest highest
 returns-2 c = optional-untold _ _ (c .before .before .before .before .before .if1 .left) (c .before .before .before .before .ia5 .ensures .text _) (c .if2 .taken)
 
 tell-text-requires : tie.Need-tell-text-requires
@@ -24,7 +23,7 @@ same-length : tie.Need-same-length
 same-length c = told-length (c .before .before .tell-text .ensures)
 
 returns-3 : tie.Need-returns-3
-unfolding lowest highest ends
+unfolding lowest highest
 returns-3 c = optional-told _ _ (c .before .before .before .before .before .before .before .before .before .if1 .left) (c .before .before .before .before .before .before .before .before .ia5 .ensures .text _) (c .before .before .before .before .if2 .left) (c .before .before .tell-text .ensures)
 
 pub airport-part-spec : {M : Type 1} → statement M

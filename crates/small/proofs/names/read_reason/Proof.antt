@@ -1,6 +1,7 @@
-use mathlib.Core.Path.{refl}
+use mathlib.Core.Path.{refl, _∙_}
 use borrow.Author.Needs.{needs}
 use Rattle.atn.specs.Reading.{mark}
+use Rattle.cursor.proofs.NumberLaws.{lowest-of}
 use Rattle.cursor.proofs.FormatLaws.{takes-null, takes-noted, takes-root, takes-extended}
 use Rattle.small.proofs.names.read_reason.Statement.{statement}
 use Rattle.small.proofs.names.read_reason.Tie as tie
@@ -9,7 +10,7 @@ ranged-requires : tie.Need-ranged-requires
 ranged-requires c κs = c .before .before .before .before .pre .0
 
 returns : tie.Need-returns
-returns c = record { reads = λ t. takes-root (c .before .before .before .before .bits .result) (c .before .before .before .before .bits .ensures) (c .before .before .if1 .taken) (rw (c .before .before .before .before .before .before .pre .1) at (c .before .ranged .ensures .number t)) }
+returns c = record { reads = λ t. takes-root (c .before .before .before .before .bits .result) (c .before .before .before .before .bits .ensures) (c .before .before .if1 .taken) (rw (lowest-of (c .before .before .before .before .before .before .pre .0) ∙ c .before .before .before .before .before .before .pre .1) at (c .before .ranged .ensures .number t)) }
 
 returns-2 : tie.Need-returns-2
 unfolding mark

@@ -1,12 +1,11 @@
 use borrow.Author.Needs.{needs}
-use Rattle.cursor.specs.Ranges.{ends}
 use Rattle.cursor.specs.Numbers.{lowest, highest}
 use Rattle.cursor.proofs.FormatLaws.{times-none, times-more, takes-times}
 use Rattle.small.proofs.numbers.read_code.Statement.{statement}
 use Rattle.small.proofs.numbers.read_code.Tie as tie
 
 returns : tie.Need-returns
-unfolding lowest highest ends
+unfolding lowest highest
 returns c =
     record {
       reads = takes-times 4 (times-more (c .before .before .before .before .ranged .ensures .number 60) (times-more (c .before .before .before .ranged2 .ensures .number 60) (times-more (c .before .before .ranged3 .ensures .number 60) (times-more (c .before .ranged4 .ensures .number 60) times-none))));

@@ -2,7 +2,6 @@ use mathlib.Core.Path.{refl}
 use native.Mathlib.Omega.{arith}
 use Rattle.x691.specs.Encoding.{width, widthIn, count}
 use Rattle.x691.specs.Encoding as encoding
-use Rattle.cursor.specs.Ranges.{ends}
 use Rattle.cursor.specs.Numbers.{lowest, highest}
 use Rattle.small.specs.Readers.{indexWidth}
 use Rattle.small.proofs.quantities.read_level_type.Statement.{statement}
@@ -13,7 +12,7 @@ unfolding indexWidth width widthIn encoding.highest count
 read-quantity-requires c κs = (refl, omega arith, omega arith)
 
 returns : tie.Need-returns
-unfolding lowest highest ends
+unfolding lowest highest
 returns c = record { reads = c .read-quantity .ensures .reads 53 54 }
 
 pub read-level-type-spec : {M : Type 1} → statement M

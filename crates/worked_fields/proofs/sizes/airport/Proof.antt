@@ -2,7 +2,6 @@
 use lib.Dec.{lit<, lit≤}
 use borrow.Author.Needs.{needs}
 use Rattle.cursor.specs.Numbers.{lowest, highest}
-use Rattle.cursor.specs.Ranges.{ends}
 use Rattle.worked_fields.proofs.sizes.airport.Statement.{statement}
 use Rattle.worked_fields.proofs.sizes.airport.Tie as tie
 
@@ -10,7 +9,7 @@ start-requires : tie.Need-start-requires
 start-requires c κs = search needs
 
 size-requires : tie.Need-size-requires
-unfolding ends lowest highest
+unfolding lowest highest
 size-requires c κs = record { listed = lit< tt; some = lit≤ tt; ordered = lit≤ tt; most = lit≤ tt }
 
 slice-aggregate-print : tie.Need-slice-aggregate-print
