@@ -118,19 +118,3 @@ does-list b {t} g z x =
     rw (← (same-list b t)) record { recs = y .recs; reads = takes-many g z (y .reads); told = y .told }
 
 ---------------------------------------------------------------- rows of sizes
-
-pub row-of-flights : SizeRow (rowAt 50)
-unfolding lowest highest
-row-of-flights = record { listed = omega arith; some = omega arith; ordered = omega arith; most = omega arith }
-
-pub row-of-airports : SizeRow (rowAt 47)
-unfolding lowest highest
-row-of-airports = record { listed = omega arith; some = omega arith; ordered = omega arith; most = omega arith }
-
-pub row-of-selectors : SizeRow (rowAt 53)
-unfolding lowest highest
-row-of-selectors = record { listed = omega arith; some = omega arith; ordered = omega arith; most = omega arith }
-
-pub row-of-applications : SizeRow (rowAt 57)
-unfolding lowest highest
-row-of-applications = record { listed = omega arith; some = omega arith; ordered = omega arith; most = omega arith }

@@ -55,7 +55,14 @@ pub fn letters(words: &mut [u64], at: Step, s: &[u8], range: Range, tag: u64) ->
     Step { c: c, n: n }
 }
 
-pub fn maybe_letters(words: &mut [u64], at: Step, s: &[u8], has: u64, range: Range, tag: u64) -> Step
+pub fn maybe_letters(
+    words: &mut [u64],
+    at: Step,
+    s: &[u8],
+    has: u64,
+    range: Range,
+    tag: u64,
+) -> Step
     requires { ⌜ (at .n < 2 ^ 20) × SizeRow range ⌝ }
     ensures { λ r. ⌜ Does 64 (Maybe has (text tag 128 0 (lowest (range .row)) (highest (range .row))) (now (s .entry))) at r (now (words .entry)) (now (words .exit)) ⌝ }
 {

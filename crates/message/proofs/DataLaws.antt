@@ -27,10 +27,6 @@ use Rattle.runs.proofs.SizeLaws.{runs-sized}
 use Rattle.message.specs.Fields.{numberField, maybeNumberField, dateTimeField, acknowledgmentField}
 use Rattle.message.specs.Elements.{elementFormat, elementsAt, constrainedAt, dataAt, messageAt}
 
-pub elements-size : SizeRow (rowAt 54)
-unfolding lowest highest
-elements-size = record { listed = omega arith; some = omega arith; ordered = omega arith; most = omega arith }
-
 ---------------------------------------------------------------- the data
 
 abbrev absent : ℕ → ℕ → Ans

@@ -27,7 +27,14 @@ pub fn number_field(s: &[u8], words: &mut [u64], x: At, range: Range, tag: u64) 
 }
 
 // The same, if it is there.
-pub fn maybe_number_field(s: &[u8], words: &mut [u64], x: At, has: u64, range: Range, tag: u64) -> At
+pub fn maybe_number_field(
+    s: &[u8],
+    words: &mut [u64],
+    x: At,
+    has: u64,
+    range: Range,
+    tag: u64,
+) -> At
     requires { ⌜ Listed range × (x .n < 2 ^ 32) ⌝ }
     ensures { λ r. ⌜ Runs 1 (maybeNumberField has (range .row) tag (now (s .entry))) (now (s .entry)) (x .c) (x .n) (now (words .entry)) (now (words .exit)) r ⌝ }
 {

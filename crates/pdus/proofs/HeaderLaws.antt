@@ -24,10 +24,6 @@ use Rattle.atn.specs.Reading.{or}
 use Rattle.pdus.specs.declared.forward.HeaderAt.{HeaderAt}
 use Rattle.pdus.specs.Forward.{Headers, Forgives}
 
-pub flight-size : SizeRow (rowAt 50)
-unfolding lowest highest
-flight-size = record { listed = omega arith; some = omega arith; ordered = omega arith; most = omega arith }
-
 -- the 24 bits of the address
 module _ {s : List ℕ} {c d : Cursor} (passes : Passes c 24 d) where
   address : Takes (span 20 1 24 24) s c d (λ n. rec 20 n (c .at) 24 ∷ [])

@@ -30,31 +30,6 @@ held-text h = record { few = h .few; there = h .held }
 pub held-none : {s : List ℕ} → Held s (record { at = 0; len = 0 })
 held-none = record { few = omega arith; there = record { there = omega arith; fits = omega arith } }
 
--- the rows of the sizes
-pub fix-size : SizeRow (rowAt 45)
-unfolding lowest highest
-fix-size = record { listed = omega arith; some = omega arith; ordered = omega arith; most = omega arith }
-
-pub navaid-size : SizeRow (rowAt 46)
-unfolding lowest highest
-navaid-size = record { listed = omega arith; some = omega arith; ordered = omega arith; most = omega arith }
-
-pub airport-size : SizeRow (rowAt 47)
-unfolding lowest highest
-airport-size = record { listed = omega arith; some = omega arith; ordered = omega arith; most = omega arith }
-
-pub procedure-size : SizeRow (rowAt 48)
-unfolding lowest highest
-procedure-size = record { listed = omega arith; some = omega arith; ordered = omega arith; most = omega arith }
-
-pub transition-size : SizeRow (rowAt 49)
-unfolding lowest highest
-transition-size = record { listed = omega arith; some = omega arith; ordered = omega arith; most = omega arith }
-
-pub flight-size : SizeRow (rowAt 50)
-unfolding lowest highest
-flight-size = record { listed = omega arith; some = omega arith; ordered = omega arith; most = omega arith }
-
 ---------------------------------------------------------------- one presence bit, and what it is of last
 
 module _ {s : List ℕ} {c d e : Cursor} {f : Fmt} {T : ℕ → List Rec} (g : Got) (o : Opens s c 1 g) (x : Takes f s (g .c) d T) where

@@ -136,10 +136,6 @@ module _ {k : ℕ} {s : List ℕ} {c : Cursor} {g : Got} (z : Sized k s c g) whe
 
 ---------------------------------------------------------------- the number of the clearances
 
-pub clearances-size : SizeRow (rowAt 55)
-unfolding lowest highest
-clearances-size = record { listed = omega arith; some = omega arith; ordered = omega arith; most = omega arith }
-
 marked-inside : (s : List ℕ) (c d : Cursor) (m : ℕ) → d ≡ marked c m → Inside s c → Inside s d
 marked-inside s c d m q i = led-inside (λ e p. ok p [] m) s c d (reads-ok {s = s} [] m q .led i) i
 

@@ -34,14 +34,6 @@ use Rattle.route.specs.Legs.{bearing, ranging, routeInformation, bearing
 use Rattle.route.proofs.PartLaws.{reads-any, reads-stay, part-none, part-within, part-same, part-then}
 use Rattle.route.proofs.ThenLaws.{times-end}
 
-pub route-size : SizeRow (rowAt 51)
-unfolding lowest highest
-route-size = record { listed = omega arith; some = omega arith; ordered = omega arith; most = omega arith }
-
-pub legs-size : SizeRow (rowAt 56)
-unfolding lowest highest
-legs-size = record { listed = omega arith; some = omega arith; ordered = omega arith; most = omega arith }
-
 -- behind a stop nothing goes on
 stopped-stops : (c : Cursor) {d : Cursor} (w m : ℕ) → (w ≡ 0 → ⊥) → d ≡ stopped c w m → d .why ≡ 0 → ⊥
 unfolding stopped

@@ -1,5 +1,5 @@
 use mathlib.Core.Path.{refl}
-use Rattle.cursor.specs.Numbers.{lowest, highest}
+use Rattle.cursor.specs.Numbers.{highest}
 use Rattle.acse.proofs.FormatLaws.{keeps-root, keeps-unread}
 use Rattle.acse.proofs.SequenceLaws.{keeps-first, keeps-both}
 use Rattle.acse.proofs.BodyLaws.{keeps-alone}
@@ -10,17 +10,9 @@ use Rattle.acse.proofs.bodies.read_abort.Tie as tie
 returns : tie.Need-returns
 returns c = rw (c .unread .ensures) (keeps-unread (c .before .before .before .bits .ensures) (c .before .if1 .taken) refl)
 
-reason-requires : tie.Need-reason-requires
-unfolding lowest
-reason-requires c κs = search needs
-
 returns-2 : tie.Need-returns-2
 unfolding highest
 returns-2 c = keeps-alone (c .before .before .before .reason .result) (c .alone .ensures) (keeps-root (c .before .before .before .before .before .before .before .bits .ensures) (c .before .before .before .before .before .if1 .left) (keeps-first (c .before .before .before .before .bits2 .ensures) (c .before .if2 .taken) (c .before .before .before .reason .ensures)))
-
-reason-requires-2 : tie.Need-reason-requires-2
-unfolding lowest
-reason-requires-2 c κs = search needs
 
 returns-3 : tie.Need-returns-3
 unfolding highest
@@ -29,4 +21,4 @@ returns-3 c = keeps-root (c .before .before .before .before .before .before .bef
 pub read-abort-spec : {M : Type 1} → statement M
 read-abort-spec =
     tie.close
-    (tie.spec (λ c κs. search needs) (λ c κs. search needs) returns (λ c κs. search needs) reason-requires (λ c κs. search needs) returns-2 reason-requires-2 returns-3)
+    (tie.spec (λ c κs. search needs) (λ c κs. search needs) returns (λ c κs. search needs) (λ c κs. search needs) (λ c κs. search needs) returns-2 (λ c κs. search needs) returns-3)

@@ -1,3 +1,4 @@
+use borrow.Author.Needs.{needs}
 -- The loop keeps that so many entries were read and told.
 use Prim.Native.Nat.{_≤_, _*_, _-_}
 use mathlib.Core.Path.{_≡_, refl}
@@ -8,7 +9,7 @@ use Rattle.cm.specs.Does.{Does}
 use Rattle.cm.specs.Parts.{entryOf}
 use Rattle.cm.proofs.TimesLaws.{times-at-end}
 use Rattle.cm.proofs.DoesLaws.{does-length, does-quiet, does-then, does-within}
-use Rattle.cm.proofs.PartLaws.{row-of-applications, does-list}
+use Rattle.cm.proofs.PartLaws.{does-list}
 use Rattle.cm.proofs.lists.entries.Statement.{statement}
 use Rattle.cm.proofs.lists.entries.Tie as tie
 
@@ -19,7 +20,7 @@ abbrev μ-loop : tie.MeasureT-loop
 μ-loop words₀ s addressed tag count z₀ i₀ words z i = count - i
 
 size-requires : tie.Need-size-requires Inv-loop μ-loop
-size-requires c κs = row-of-applications
+size-requires c κs = search needs
 
 loop-holds : tie.Need-loop-holds Inv-loop μ-loop
 loop-holds c = (omega arith, does-quiet refl times-none)

@@ -1,6 +1,5 @@
 use native.Mathlib.Omega.{arith}
 use Rattle.cursor.specs.Numbers.{lowest, highest}
-use Rattle.cm.proofs.PartLaws.{row-of-flights, row-of-airports}
 use Rattle.cm.proofs.DoesLaws.{does-length}
 use Rattle.cm.proofs.LogonLaws.{request-does}
 use borrow.Author.Needs.{needs}
@@ -8,16 +7,16 @@ use Rattle.cm.proofs.logon.logon_request.Statement.{statement}
 use Rattle.cm.proofs.logon.logon_request.Tie as tie
 
 letters-requires : tie.Need-letters-requires
-letters-requires c κs = (search needs, row-of-flights)
+letters-requires c κs = (search needs, search needs)
 
 maybe-entries-requires-2 : tie.Need-maybe-entries-requires-2
 maybe-entries-requires-2 c κs = omega (arith, c .before .before .before .before .before .before .before .before .before .before .before .before .before .before .before .before .before .pre, c .before .before .before .before .before .before .before .before .before .before .before .letters .ensures .told .few, c .before .before .before .before .before .before .before .long-tsap .ensures .told .few, c .before .before .before .maybe-entries .ensures .told .few)
 
 maybe-letters-requires : tie.Need-maybe-letters-requires
-maybe-letters-requires c κs = (omega (arith, c .before .before .before .before .before .before .before .before .before .before .before .before .before .before .before .before .before .before .before .before .before .before .pre, c .before .before .before .before .before .before .before .before .before .before .before .before .before .before .before .before .letters .ensures .told .few, c .before .before .before .before .before .before .before .before .before .before .before .before .long-tsap .ensures .told .few, c .before .before .before .before .before .before .before .before .maybe-entries .ensures .told .few, c .before .before .before .before .maybe-entries2 .ensures .told .few, c .before .maybe-facility .ensures (c .before .before .before .before .before .before .before .before .before .before .before .before .before .before .before .before .before .before .before .before .before .before .args .s .now) (c .before .before .before .before .before .before .before .before .before .before .before .before .before .before .before .before .before .before .before .before .before .before .args .words .now) .told .few), row-of-airports)
+maybe-letters-requires c κs = (omega (arith, c .before .before .before .before .before .before .before .before .before .before .before .before .before .before .before .before .before .before .before .before .before .before .pre, c .before .before .before .before .before .before .before .before .before .before .before .before .before .before .before .before .letters .ensures .told .few, c .before .before .before .before .before .before .before .before .before .before .before .before .long-tsap .ensures .told .few, c .before .before .before .before .before .before .before .before .maybe-entries .ensures .told .few, c .before .before .before .before .maybe-entries2 .ensures .told .few, c .before .maybe-facility .ensures (c .before .before .before .before .before .before .before .before .before .before .before .before .before .before .before .before .before .before .before .before .before .before .args .s .now) (c .before .before .before .before .before .before .before .before .before .before .before .before .before .before .before .before .before .before .before .before .before .before .args .words .now) .told .few), search needs)
 
 maybe-letters-requires-2 : tie.Need-maybe-letters-requires-2
-maybe-letters-requires-2 c κs = (omega (arith, c .before .before .before .before .before .before .before .before .before .before .before .before .before .before .before .before .before .before .before .before .before .before .before .before .before .before .pre, c .before .before .before .before .before .before .before .before .before .before .before .before .before .before .before .before .before .before .before .before .letters .ensures .told .few, c .before .before .before .before .before .before .before .before .before .before .before .before .before .before .before .before .long-tsap .ensures .told .few, c .before .before .before .before .before .before .before .before .before .before .before .before .maybe-entries .ensures .told .few, c .before .before .before .before .before .before .before .before .maybe-entries2 .ensures .told .few, c .before .before .before .before .before .maybe-facility .ensures (c .before .before .before .before .before .before .before .before .before .before .before .before .before .before .before .before .before .before .before .before .before .before .before .before .before .before .args .s .now) (c .before .before .before .before .before .before .before .before .before .before .before .before .before .before .before .before .before .before .before .before .before .before .before .before .before .before .args .words .now) .told .few, c .before .before .before .maybe-letters .ensures .told .few), row-of-airports)
+maybe-letters-requires-2 c κs = (omega (arith, c .before .before .before .before .before .before .before .before .before .before .before .before .before .before .before .before .before .before .before .before .before .before .before .before .before .before .pre, c .before .before .before .before .before .before .before .before .before .before .before .before .before .before .before .before .before .before .before .before .letters .ensures .told .few, c .before .before .before .before .before .before .before .before .before .before .before .before .before .before .before .before .long-tsap .ensures .told .few, c .before .before .before .before .before .before .before .before .before .before .before .before .maybe-entries .ensures .told .few, c .before .before .before .before .before .before .before .before .maybe-entries2 .ensures .told .few, c .before .before .before .before .before .maybe-facility .ensures (c .before .before .before .before .before .before .before .before .before .before .before .before .before .before .before .before .before .before .before .before .before .before .before .before .before .before .args .s .now) (c .before .before .before .before .before .before .before .before .before .before .before .before .before .before .before .before .before .before .before .before .before .before .before .before .before .before .args .words .now) .told .few, c .before .before .before .maybe-letters .ensures .told .few), search needs)
 
 maybe-etd-requires : tie.Need-maybe-etd-requires
 maybe-etd-requires c κs = omega (arith, c .before .before .before .before .before .before .before .before .before .before .before .before .before .before .before .before .before .before .before .before .before .before .before .before .before .before .before .before .before .before .pre, c .before .before .before .before .before .before .before .before .before .before .before .before .before .before .before .before .before .before .before .before .before .before .before .before .letters .ensures .told .few, c .before .before .before .before .before .before .before .before .before .before .before .before .before .before .before .before .before .before .before .before .long-tsap .ensures .told .few, c .before .before .before .before .before .before .before .before .before .before .before .before .before .before .before .before .maybe-entries .ensures .told .few, c .before .before .before .before .before .before .before .before .before .before .before .before .maybe-entries2 .ensures .told .few, c .before .before .before .before .before .before .before .before .before .maybe-facility .ensures (c .before .before .before .before .before .before .before .before .before .before .before .before .before .before .before .before .before .before .before .before .before .before .before .before .before .before .before .before .before .before .args .s .now) (c .before .before .before .before .before .before .before .before .before .before .before .before .before .before .before .before .before .before .before .before .before .before .before .before .before .before .before .before .before .before .args .words .now) .told .few, c .before .before .before .before .before .before .before .maybe-letters .ensures .told .few, c .before .before .before .maybe-letters2 .ensures .told .few)

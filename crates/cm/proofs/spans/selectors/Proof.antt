@@ -1,10 +1,7 @@
-use Rattle.cm.proofs.PartLaws.{row-of-selectors, span-selectors}
+use Rattle.cm.proofs.PartLaws.{span-selectors}
 use borrow.Author.Needs.{needs}
 use Rattle.cm.proofs.spans.selectors.Statement.{statement}
 use Rattle.cm.proofs.spans.selectors.Tie as tie
-
-size-requires : tie.Need-size-requires
-size-requires c κs = row-of-selectors
 
 octets-requires : tie.Need-octets-requires
 octets-requires c κs = (search needs, c .before .before .size .ensures .few)
@@ -13,4 +10,4 @@ returns : tie.Need-returns
 returns c = let x = c .before .before .octets .ensures (c .before .before .before .before .before .before .before .before .args .s .now) in record { recs = x .recs; reads = span-selectors (c .before .before .before .before .before .size .result) (c .before .before .before .before .before .size .ensures) (x .reads); told = x .told }
 
 pub selectors-spec : {M : Type 1} → statement M
-selectors-spec = tie.close (tie.spec size-requires octets-requires (λ c. search needs) returns)
+selectors-spec = tie.close (tie.spec (λ c κs. search needs) octets-requires (λ c. search needs) returns)

@@ -2,7 +2,7 @@ use native.Mathlib.Omega.{arith}
 use borrow.Author.Needs.{needs}
 use Rattle.records.proofs.Telling.{told-length, told-then}
 use Rattle.runs.proofs.RunLaws.{runs-within}
-use Rattle.message.proofs.DataLaws.{elements-size, data-read}
+use Rattle.message.proofs.DataLaws.{data-read}
 use Rattle.message.proofs.data.read_data.Statement.{statement}
 use Rattle.message.proofs.data.read_data.Tie as tie
 
@@ -19,4 +19,4 @@ returns : tie.Need-returns
 returns c = runs-within 236050 _ (omega (arith, c .before .before .before .before .before .before .before .before .before .before .size .ensures .few)) (data-read _ (c .before .before .before .before .before .before .before .before .before .before .before .presence .ensures) (c .before .before .before .before .before .before .before .before .before .before .size .ensures) (c .before .before .before .before .before .before .before .read-elements .ensures) (c .before .before .maybe-constrained .ensures))
 
 pub read-data-spec : {M : Type 1} → statement M
-read-data-spec = tie.close (tie.spec (λ c κs. search needs) (λ c κs. elements-size) read-elements-requires maybe-constrained-requires same-length returns)
+read-data-spec = tie.close (tie.spec (λ c κs. search needs) (λ c κs. search needs) read-elements-requires maybe-constrained-requires same-length returns)

@@ -1,3 +1,4 @@
+use mathlib.Core.Path.{refl}
 use native.Mathlib.Omega.{arith}
 use borrow.Author.Needs.{needs}
 use Rattle.records.proofs.Telling.{told-length, told-then}
@@ -7,7 +8,7 @@ use Rattle.message.proofs.data.read_message.Statement.{statement}
 use Rattle.message.proofs.data.read_message.Tie as tie
 
 maybe-number-field-requires : tie.Need-maybe-number-field-requires
-maybe-number-field-requires c κs = (omega arith, omega (arith, c .before .before .before .before .before .before .before .before .before .before .before .pre .0, c .before .before .before .before .number-field .ensures .told .few))
+maybe-number-field-requires c κs = (refl, omega (arith, c .before .before .before .before .before .before .before .before .before .before .before .pre .0, c .before .before .before .before .number-field .ensures .told .few))
 
 date-time-field-requires : tie.Need-date-time-field-requires
 date-time-field-requires c κs = omega (arith, c .before .before .before .before .before .before .before .before .before .before .before .before .before .before .before .pre .0, c .before .before .before .before .before .before .before .before .number-field .ensures .told .few, c .before .before .before .maybe-number-field .ensures .told .few)

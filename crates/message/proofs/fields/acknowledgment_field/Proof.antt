@@ -1,4 +1,4 @@
-use native.Mathlib.Omega.{arith}
+use mathlib.Core.Path.{refl}
 use borrow.Author.Needs.{needs}
 use Rattle.records.proofs.Telling.{told-length}
 use Rattle.message.proofs.FieldLaws.{acknowledgment-stuck, acknowledgment-absent, acknowledgment-there}
@@ -18,7 +18,7 @@ returns-2 : tie.Need-returns-2
 returns-2 c = acknowledgment-absent _ (c .before .before .before .before .before .before .if1 .taken) (c .before .before .before .before .if2 .left) (c .before .before .emit .ensures)
 
 number-field-requires : tie.Need-number-field-requires
-number-field-requires c κs = (omega arith, c .before .before .before .before .before .pre)
+number-field-requires c κs = (refl, c .before .before .before .before .before .pre)
 
 same-length-2 : tie.Need-same-length-2
 same-length-2 c = told-length (c .before .before .number-field .ensures .told)

@@ -1,3 +1,4 @@
+use mathlib.Core.Path.{refl}
 use native.Mathlib.Omega.{arith}
 use borrow.Author.Needs.{needs}
 use Rattle.records.proofs.Telling.{told-length, told-then}
@@ -6,7 +7,7 @@ use Rattle.pdus.proofs.choices.read_start.Statement.{statement}
 use Rattle.pdus.proofs.choices.read_start.Tie as tie
 
 maybe-number-field-requires : tie.Need-maybe-number-field-requires
-maybe-number-field-requires c κs = (omega arith, omega (arith, c .before .before .before .before .before .before .before .pre .1))
+maybe-number-field-requires c κs = (refl, omega (arith, c .before .before .before .before .before .before .before .pre .1))
 
 read-protected-requires : tie.Need-read-protected-requires
 read-protected-requires c κs = (c .before .before .before .before .before .before .before .before .before .before .before .pre .0, omega (arith, c .before .before .before .before .before .before .before .before .before .before .before .pre .1, c .before .before .before .maybe-number-field .ensures .told .few), c .before .before .before .before .before .before .before .before .before .before .before .pre .2, c .before .before .before .before .before .before .before .before .before .before .before .pre .3)

@@ -4,16 +4,9 @@ use borrow.Author.Needs.{needs}
 use Rattle.cursor.specs.Numbers.{lowest, highest}
 use Rattle.cursor.proofs.FormatLaws.{maybe-none, maybe-some}
 use Rattle.places.specs.Names.{procedureRecs}
-use Rattle.places.proofs.NameLaws.{held-text, held-none, procedure-size, transition-size, takes-two-then-maybe}
+use Rattle.places.proofs.NameLaws.{held-text, held-none, takes-two-then-maybe}
 use Rattle.places.proofs.names.read_procedure.Statement.{statement}
 use Rattle.places.proofs.names.read_procedure.Tie as tie
-
-named-requires : tie.Need-named-requires
-unfolding lowest
-named-requires c κs = (omega arith, refl)
-
-ia5-requires : tie.Need-ia5-requires
-ia5-requires c κs = procedure-size
 
 returns : tie.Need-returns
 unfolding lowest highest procedureRecs
@@ -23,9 +16,6 @@ returns c =
       heldName = held-text (c .before .before .before .before .ia5 .ensures);
       heldTransition = held-none;
     }
-
-ia5-requires-2 : tie.Need-ia5-requires-2
-ia5-requires-2 c κs = transition-size
 
 returns-2 : tie.Need-returns-2
 unfolding lowest highest procedureRecs
@@ -37,4 +27,4 @@ returns-2 c =
     }
 
 pub read-procedure-spec : {M : Type 1} → statement M
-read-procedure-spec = tie.close (tie.spec (λ c κs. search needs) named-requires ia5-requires returns ia5-requires-2 returns-2)
+read-procedure-spec = tie.close (tie.spec (λ c κs. search needs) (λ c κs. search needs) (λ c κs. search needs) returns (λ c κs. search needs) returns-2)

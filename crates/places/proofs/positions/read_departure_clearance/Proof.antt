@@ -1,13 +1,10 @@
 use borrow.Author.Needs.{needs}
 use Rattle.cursor.specs.Numbers.{lowest, highest}
 use Rattle.places.specs.Positions.{departureRecs}
-use Rattle.places.proofs.NameLaws.{held-text, flight-size}
+use Rattle.places.proofs.NameLaws.{held-text}
 use Rattle.places.proofs.UnreadLaws.{takes-unread}
 use Rattle.places.proofs.positions.read_departure_clearance.Statement.{statement}
 use Rattle.places.proofs.positions.read_departure_clearance.Tie as tie
-
-ia5-requires : tie.Need-ia5-requires
-ia5-requires c κs = flight-size
 
 returns : tie.Need-returns
 unfolding lowest highest departureRecs
@@ -19,4 +16,4 @@ returns c =
     }
 
 pub read-departure-clearance-spec : {M : Type 1} → statement M
-read-departure-clearance-spec = tie.close (tie.spec (λ c κs. search needs) (λ c κs. search needs) ia5-requires (λ c κs. search needs) returns)
+read-departure-clearance-spec = tie.close (tie.spec (λ c κs. search needs) (λ c κs. search needs) (λ c κs. search needs) (λ c κs. search needs) returns)

@@ -2,7 +2,7 @@ use borrow.Author.Needs.{needs}
 use Rattle.cursor.specs.Numbers.{lowest, highest}
 use Rattle.places.proofs.NameLaws.{held-text}
 use Rattle.route.specs.Legs.{HeldLeg}
-use Rattle.route.proofs.LegLaws.{route-size, leg-place, leg-coordinates, leg-between, leg-ranging, leg-designator, leg-unlisted}
+use Rattle.route.proofs.LegLaws.{leg-place, leg-coordinates, leg-between, leg-ranging, leg-designator, leg-unlisted}
 use Rattle.route.proofs.legs.read_leg.Statement.{statement}
 use Rattle.route.proofs.legs.read_leg.Tie as tie
 
@@ -22,9 +22,6 @@ returns-4 : tie.Need-returns-4
 unfolding HeldLeg
 returns-4 c = record { reads = leg-ranging (c .before .before .before .before .before .bits .result) (c .before .before .before .before .before .bits .ensures) (c .before .if4 .taken) (c .read-ranging .ensures); held = tt }
 
-ia5-requires : tie.Need-ia5-requires
-ia5-requires c κs = route-size
-
 returns-5 : tie.Need-returns-5
 unfolding HeldLeg lowest highest
 returns-5 c = record { reads = leg-designator (c .before .before .before .before .before .before .before .before .bits .result) (c .before .before .before .before .before .before .before .before .bits .ensures) _ (c .before .before .before .if5 .taken) (c .before .before .ia5 .ensures .text 101); held = held-text (c .before .before .ia5 .ensures) }
@@ -34,4 +31,4 @@ unfolding HeldLeg
 returns-6 c = record { reads = leg-unlisted (c .before .before .before .before .before .before .bits .result) (c .before .before .before .before .before .before .bits .ensures) (c .before .before .before .before .before .if1 .left) (c .before .before .before .before .if2 .left) (c .before .before .before .if3 .left) (c .before .before .if4 .left) (c .before .if5 .left) (c .stop .ensures); held = tt }
 
 pub read-leg-spec : {M : Type 1} → statement M
-read-leg-spec = tie.close (tie.spec (λ c κs. search needs) (λ c κs. search needs) returns (λ c κs. search needs) returns-2 (λ c κs. search needs) (λ c κs. search needs) returns-3 (λ c κs. search needs) returns-4 ia5-requires returns-5 (λ c κs. search needs) returns-6)
+read-leg-spec = tie.close (tie.spec (λ c κs. search needs) (λ c κs. search needs) returns (λ c κs. search needs) returns-2 (λ c κs. search needs) (λ c κs. search needs) returns-3 (λ c κs. search needs) returns-4 (λ c κs. search needs) returns-5 (λ c κs. search needs) returns-6)

@@ -1,8 +1,9 @@
+use borrow.Author.Needs.{needs}
 use native.Mathlib.Omega.{arith}
 use Prim.Native.Nat.{_≤_, _-_, _*_}
 use Rattle.records.proofs.Telling.{told-length}
 use Rattle.route.specs.Parts.{Part}
-use Rattle.route.proofs.LegLaws.{legs-size, legsOf, legs-none, legs-more, legs-all}
+use Rattle.route.proofs.LegLaws.{legsOf, legs-none, legs-more, legs-all}
 use Rattle.route.proofs.legs.read_legs.Statement.{statement}
 use Rattle.route.proofs.legs.read_legs.Tie as tie
 
@@ -13,7 +14,7 @@ abbrev μ-loop : tie.MeasureT-loop
 μ-loop s words₀ n legs m₀ d₀ i₀ words m d i = legs - i
 
 size-requires : tie.Need-size-requires Inv-loop μ-loop
-size-requires c κs = legs-size
+size-requires c κs = search needs
 
 loop-holds : tie.Need-loop-holds Inv-loop μ-loop
 loop-holds c = (omega arith, legs-none)

@@ -1,16 +1,13 @@
+use borrow.Author.Needs.{needs}
 use native.Mathlib.Omega.{arith}
 use Rattle.cursor.specs.Numbers.{lowest, highest}
 use Rattle.records.proofs.Telling.{told-length}
-use Rattle.places.proofs.NameLaws.{airport-size}
 use Rattle.route.proofs.PartLaws.{optional-none, optional-untold, optional-told}
 use Rattle.route.proofs.parts.airport_part.Statement.{statement}
 use Rattle.route.proofs.parts.airport_part.Tie as tie
 
 returns : tie.Need-returns
 returns c = optional-none _ _ (c .if1 .taken)
-
-ia5-requires : tie.Need-ia5-requires
-ia5-requires c κs = airport-size
 
 returns-2 : tie.Need-returns-2
 unfolding lowest highest
@@ -27,4 +24,4 @@ unfolding lowest highest
 returns-3 c = optional-told _ _ (c .before .before .before .before .before .before .before .before .before .if1 .left) (c .before .before .before .before .before .before .before .before .ia5 .ensures .text _) (c .before .before .before .before .if2 .left) (c .before .before .tell-text .ensures)
 
 pub airport-part-spec : {M : Type 1} → statement M
-airport-part-spec = tie.close (tie.spec returns ia5-requires returns-2 tell-text-requires same-length returns-3)
+airport-part-spec = tie.close (tie.spec returns (λ c κs. search needs) returns-2 tell-text-requires same-length returns-3)
