@@ -14,9 +14,9 @@ use Rattle.cursor.specs.declared.place.Cursor.{Cursor}
 use Rattle.cursor.specs.Place.{stopped}
 use Rattle.cursor.specs.Texts.{channelRecs}
 use Rattle.cursor.proofs.FormatLaws.{takes-null, takes-refuse}
-use Rattle.small.specs.declared.frequency.Frequency.{Frequency}
-use Rattle.small.specs.Records.{frequencyRecs}
-use Rattle.small.proofs.FrequencyLaws.{number-recs, channel-recs}
+use Rattle.frequencies.specs.declared.Frequency.{Frequency}
+use Rattle.frequencies.specs.Records.{frequencyRecs}
+use Rattle.frequencies.proofs.FrequencyLaws.{number-recs, channel-recs}
 use Rattle.places.specs.declared.names.Procedure.{Procedure}
 use Rattle.places.specs.declared.positions.Departure.{Departure}
 use Rattle.places.specs.Names.{Held}

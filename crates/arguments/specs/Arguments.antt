@@ -8,7 +8,10 @@ use Rattle.atn.specs.Messages as message
 use Rattle.atn.specs.Tags as tag
 use Rattle.cursor.specs.declared.place.Cursor.{Cursor}
 use Rattle.cursor.specs.Place.{Takes}
-use Rattle.small.specs.Records.{quantityRecs, nameRecs, tripleRecs, codeRecs, runwayRecs, frequencyRecs, HeldChannel}
+use Rattle.quantities.specs.Records.{quantityRecs}
+use Rattle.enumerations.specs.Records.{nameRecs, tripleRecs}
+use Rattle.codes_runways.specs.Records.{codeRecs, runwayRecs}
+use Rattle.frequencies.specs.Records.{frequencyRecs, HeldChannel}
 use Rattle.places.specs.Angles.{pairRecs}
 use Rattle.places.specs.Names.{Held, procedureRecs}
 use Rattle.places.specs.Positions.{HeldPosition, positionRecs, departureRecs}

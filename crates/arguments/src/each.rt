@@ -2,23 +2,23 @@
 ghost use Rattle.arguments.specs.Arguments.{Arguments};
 use super::Argument;
 use super::ArgumentAt;
+use codes_runways::read_code;
+use codes_runways::read_runway;
 use cursor::place::Cursor;
+use enumerations::read_clearance_type;
+use enumerations::read_error_information;
+use enumerations::read_facility_function;
+use enumerations::read_speed_type;
+use enumerations::read_speed_type_triple;
+use enumerations::read_traffic_type;
+use frequencies::read_frequency;
 use places::angles::read_latlon;
 use places::names::read_procedure;
 use places::positions::read_departure_clearance;
 use places::positions::read_position;
-use small::frequency::read_frequency;
-use small::names::read_clearance_type;
-use small::names::read_error_information;
-use small::names::read_facility_function;
-use small::names::read_speed_type;
-use small::names::read_speed_type_triple;
-use small::names::read_traffic_type;
-use small::numbers::read_code;
-use small::numbers::read_runway;
-use small::quantities::read_degrees;
-use small::quantities::read_level_type;
-use small::quantities::read_speed;
+use quantities::read_degrees;
+use quantities::read_level_type;
+use quantities::read_speed;
 
 pub fn position(s: &[u8], c: Cursor) -> ArgumentAt
     ensures { λ r. ⌜ Arguments 1 (now (s .entry)) c r ⌝ }

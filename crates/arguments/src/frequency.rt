@@ -1,9 +1,9 @@
 // The records of a frequency, put into the lent words behind the first n. The digits of a channel are read where they stand in the frame s.
 ghost use Prim.Native.Nat.{_<_, _^_};
 ghost use Rattle.records.specs.Told.{Told};
-ghost use Rattle.small.specs.Records.{frequencyRecs, HeldChannel};
+ghost use Rattle.frequencies.specs.Records.{frequencyRecs, HeldChannel};
+use frequencies::Frequency;
 use records::emit;
-use small::frequency::Frequency;
 use tell::tell_channel;
 
 pub fn tell_frequency(words: &mut [u64], n: usize, element: u64, s: &[u8], x: Frequency) -> usize

@@ -2,8 +2,13 @@
 ghost use Prim.Native.Nat.{_<_, _^_};
 ghost use Rattle.records.specs.Told.{Told};
 ghost use Rattle.arguments.specs.Arguments.{Arguments, HeldArgument, argumentRecs};
+use codes_runways::Code;
+use codes_runways::Runway;
 use cursor::place::Cursor;
 use cursor::place::stop;
+use enumerations::Name;
+use enumerations::Triple;
+use frequencies::Frequency;
 use places::angles::Pair;
 use places::names::Procedure;
 use places::positions::Departure;
@@ -12,17 +17,12 @@ use places::telling::tell_departure;
 use places::telling::tell_pair;
 use places::telling::tell_position;
 use places::telling::tell_procedure;
-use small::frequency::Frequency;
-use small::names::Name;
-use small::names::Triple;
-use small::numbers::Code;
-use small::numbers::Runway;
-use small::quantities::Quantity;
-use small::telling::tell_code;
-use small::telling::tell_name;
-use small::telling::tell_quantity;
-use small::telling::tell_runway;
-use small::telling::tell_triple;
+use quantities::Quantity;
+use tell_values::tell_code;
+use tell_values::tell_name;
+use tell_values::tell_quantity;
+use tell_values::tell_runway;
+use tell_values::tell_triple;
 
 mod each; // each.rt: a reader for each argument
 pub mod frequency; // frequency.rt: the records of a frequency

@@ -12,10 +12,10 @@ use cursor::numbers::ranged;
 use cursor::place::Cursor;
 use cursor::place::stop;
 use cursor::texts::ia5;
+use enumerations::read_reason;
 use records::emit;
-use small::names::read_reason;
-use small::telling::tell_name;
 use tell::tell_text;
+use tell_values::tell_name;
 
 // How far a reading is: its cursor, and how many records are told.
 pub struct Step {

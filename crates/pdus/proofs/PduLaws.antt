@@ -28,9 +28,9 @@ use Rattle.runs.specs.declared.At.{At}
 use Rattle.runs.specs.Runs.{Runs}
 use Rattle.runs.proofs.FrameLaws.{runs-noted, runs-root, runs-extended, runs-no-index, runs-index}
 use Rattle.runs.proofs.RunLaws.{ran-inside, ran-back, ran-last, ran-may, ran-opened, runs-same, runs-told, runs-untold, runs-silent, runs-stayed, runs-within}
-use Rattle.small.specs.declared.names.NameAt.{NameAt}
-use Rattle.small.specs.Readers.{Reasons}
-use Rattle.small.specs.Records.{nameRecs}
+use Rattle.enumerations.specs.declared.NameAt.{NameAt}
+use Rattle.enumerations.specs.Readers.{Reasons}
+use Rattle.enumerations.specs.Records.{nameRecs}
 use Rattle.message.specs.Fields.{numberField, maybeNumberField}
 use Rattle.pdus.specs.Parts.{protected}
 use Rattle.pdus.specs.Forward.{forwardAt}

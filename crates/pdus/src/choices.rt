@@ -18,11 +18,11 @@ use cursor::ranges::FORWARD_RESPONSE;
 use cursor::ranges::PROVIDER_ABORT_REASON;
 use cursor::ranges::SIDE;
 use cursor::ranges::USER_ABORT_REASON;
+use enumerations::read_reason;
 use message::fields::maybe_number_field;
 use records::emit;
 use runs::At;
-use small::names::read_reason;
-use small::telling::tell_name;
+use tell_values::tell_name;
 
 // The reason of an abort or of a forward response.
 fn reason_part(s: &[u8], words: &mut [u64], n: usize, c: Cursor, row: usize, tag: u64) -> At

@@ -19,7 +19,7 @@ use Rattle.cursor.specs.Numbers.{lowest, highest}
 use Rattle.cursor.specs.Texts.{SizeRow, Texts}
 use Rattle.cursor.proofs.ChoiceLaws.{takes-index}
 use Rattle.cursor.proofs.FormatLaws.{allRead, takes-opened, fields-must, fields-last-may, opened-inside, last-bit, takes-back}
-use Rattle.small.proofs.Indices.{pulls-last}
+use Rattle.frequencies.proofs.Indices.{pulls-last}
 use Rattle.places.specs.Names.{Held}
 
 ---------------------------------------------------------------- texts

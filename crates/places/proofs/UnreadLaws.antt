@@ -20,7 +20,7 @@ use Rattle.cursor.specs.Place.{put, stopped, marked, Inside, Pulled, stuck, sho
 use Rattle.cursor.specs.Formats.{Fields}
 use Rattle.cursor.proofs.Laws.{led-stays, led-from, reads-then, reads-ok, marked-nil}
 use Rattle.cursor.proofs.FormatLaws.{reads-going, fields-must, takes-back}
-use Rattle.small.proofs.Indices.{pulls-last}
+use Rattle.frequencies.proofs.Indices.{pulls-last}
 use Rattle.places.specs.Positions.{Flagged, shutAlready, ranShort, flagged, Flags, noteRecs}
 
 ---------------------------------------------------------------- one presence bit

@@ -9,7 +9,7 @@ use Rattle.atn.specs.Tags as tag
 use Rattle.cursor.specs.declared.place.Cursor.{Cursor}
 use Rattle.cursor.specs.Place.{Takes}
 use Rattle.cursor.specs.Texts.{textRecs}
-use Rattle.small.specs.Records.{quantityRecs}
+use Rattle.quantities.specs.Records.{quantityRecs}
 use Rattle.places.specs.Angles.{pairRecs}
 use Rattle.places.specs.Names.{Held, publishedRecs}
 use Rattle.route.specs.declared.legs.Bearing.{Bearing}

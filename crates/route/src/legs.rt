@@ -22,12 +22,12 @@ use places::names::Published;
 use places::names::read_published;
 use places::telling::tell_pair;
 use places::telling::tell_published;
+use quantities::Quantity;
+use quantities::read_degrees;
 use records::emit;
 use runs::At;
-use small::quantities::Quantity;
-use small::quantities::read_degrees;
-use small::telling::tell_quantity;
 use tell::tell_text;
+use tell_values::tell_quantity;
 
 pub struct Bearing {
     pub place: Published,

@@ -2,15 +2,15 @@
 ghost use Prim.Native.Nat.{_+_, _<_, _^_};
 ghost use Rattle.atn.specs.Messages.{ia5 as airport, runway, procedure};
 ghost use Rattle.route.specs.Parts.{Optional};
+use codes_runways::read_runway;
 use cursor::place::Cursor;
 use cursor::ranges::AIRPORT_SIZE;
 use cursor::texts::ia5;
 use places::names::read_procedure;
 use places::telling::tell_procedure;
 use runs::At;
-use small::numbers::read_runway;
-use small::telling::tell_runway;
 use tell::tell_text;
+use tell_values::tell_runway;
 
 pub fn airport_part(s: &[u8], words: &mut [u64], n: usize, c: Cursor, has: u64, tag: u64) -> At
     requires { ⌜ n < 2 ^ 31 ⌝ }

@@ -1,4 +1,4 @@
-use Rattle.small.specs.Records.{nameRecs}
+use Rattle.enumerations.specs.Records.{nameRecs}
 use borrow.Author.Needs.{needs}
 use Rattle.cm.proofs.parts.reason.Statement.{statement}
 use Rattle.cm.proofs.parts.reason.Tie as tie
