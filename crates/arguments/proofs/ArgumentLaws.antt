@@ -17,10 +17,10 @@ use Rattle.cursor.proofs.FormatLaws.{takes-null, takes-refuse}
 use Rattle.frequencies.specs.declared.Frequency.{Frequency}
 use Rattle.frequencies.specs.Records.{frequencyRecs}
 use Rattle.frequencies.proofs.FrequencyLaws.{number-recs, channel-recs}
-use Rattle.places.specs.declared.names.Procedure.{Procedure}
-use Rattle.places.specs.declared.positions.Departure.{Departure}
-use Rattle.places.specs.Names.{Held}
-use Rattle.places.specs.Positions.{HeldPosition}
+use Rattle.named_places.specs.declared.Procedure.{Procedure}
+use Rattle.positions.specs.declared.Departure.{Departure}
+use Rattle.named_places.specs.Names.{Held}
+use Rattle.positions.specs.Positions.{HeldPosition}
 use Rattle.arguments.specs.declared.Argument.{Argument}
 use Rattle.arguments.specs.declared.Argument.the-variants.{Nothing, Procedure as TheProcedure, Departure as TheDeparture}
 use Rattle.arguments.specs.declared.ArgumentAt.{ArgumentAt}

@@ -12,9 +12,9 @@ use Rattle.quantities.specs.Records.{quantityRecs}
 use Rattle.enumerations.specs.Records.{nameRecs, tripleRecs}
 use Rattle.codes_runways.specs.Records.{codeRecs, runwayRecs}
 use Rattle.frequencies.specs.Records.{frequencyRecs, HeldChannel}
-use Rattle.places.specs.Angles.{pairRecs}
-use Rattle.places.specs.Names.{Held, procedureRecs}
-use Rattle.places.specs.Positions.{HeldPosition, positionRecs, departureRecs}
+use Rattle.angles.specs.Angles.{pairRecs}
+use Rattle.named_places.specs.Names.{Held, procedureRecs}
+use Rattle.positions.specs.Positions.{HeldPosition, positionRecs, departureRecs}
 use Rattle.arguments.specs.declared.Argument.{Argument}
 use Rattle.arguments.specs.declared.Argument.the-variants.{Nothing, Position, Speed, SpeedType, SpeedTypes, Level, Degrees, Frequency, Code}
 use Rattle.arguments.specs.declared.Argument.the-variants.{TrafficType, ClearanceType, ErrorInformation, FacilityFunction, Procedure, Runway, Coordinates, Departure}

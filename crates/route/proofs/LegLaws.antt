@@ -22,10 +22,10 @@ use Rattle.cursor.proofs.Laws.{reads-then, reads-ok, marked-nil}
 use Rattle.cursor.proofs.ChoiceLaws.{takes-index, takes-unlisted}
 use Rattle.cursor.proofs.FormatLaws.{allRead, takes-plain, takes-refuse, takes-times, fields-must, fields-last, times-none, times-more}
 use Rattle.runs.specs.declared.At.{At}
-use Rattle.places.specs.declared.angles.Pair.{Pair}
-use Rattle.places.specs.declared.names.Published.{Published}
-use Rattle.places.specs.Angles.{pairRecs}
-use Rattle.places.specs.Names.{publishedRecs}
+use Rattle.angles.specs.declared.Pair.{Pair}
+use Rattle.named_places.specs.declared.Published.{Published}
+use Rattle.angles.specs.Angles.{pairRecs}
+use Rattle.named_places.specs.Names.{publishedRecs}
 use Rattle.route.specs.declared.legs.Bearing.{Bearing}
 use Rattle.route.specs.declared.legs.Leg.the-variants.{Place, Coordinates, Between, Designator, Unread}
 use Rattle.cursor.specs.declared.texts.Text.{Text}

@@ -10,8 +10,8 @@ use Rattle.cursor.specs.declared.place.Cursor.{Cursor}
 use Rattle.cursor.specs.Place.{Takes}
 use Rattle.cursor.specs.Texts.{textRecs}
 use Rattle.quantities.specs.Records.{quantityRecs}
-use Rattle.places.specs.Angles.{pairRecs}
-use Rattle.places.specs.Names.{Held, publishedRecs}
+use Rattle.angles.specs.Angles.{pairRecs}
+use Rattle.named_places.specs.Names.{Held, publishedRecs}
 use Rattle.route.specs.declared.legs.Bearing.{Bearing}
 use Rattle.route.specs.declared.legs.BearingAt.{BearingAt}
 use Rattle.route.specs.declared.legs.Leg.{Leg}

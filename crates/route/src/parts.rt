@@ -6,10 +6,10 @@ use codes_runways::read_runway;
 use cursor::place::Cursor;
 use cursor::ranges::AIRPORT_SIZE;
 use cursor::texts::ia5;
-use places::names::read_procedure;
-use places::telling::tell_procedure;
+use named_places::read_procedure;
 use runs::At;
 use tell::tell_text;
+use tell_named_places::tell_procedure;
 use tell_values::tell_runway;
 
 pub fn airport_part(s: &[u8], words: &mut [u64], n: usize, c: Cursor, has: u64, tag: u64) -> At

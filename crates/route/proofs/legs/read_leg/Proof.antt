@@ -1,7 +1,7 @@
 use borrow.Author.Needs.{needs}
 use Rattle.cursor.specs.Ranges.{ends}
 use Rattle.cursor.specs.Numbers.{lowest, highest}
-use Rattle.places.proofs.NameLaws.{held-text}
+use Rattle.named_places.proofs.NameLaws.{held-text}
 use Rattle.route.specs.Legs.{HeldLeg}
 use Rattle.route.proofs.LegLaws.{route-size, leg-place, leg-coordinates, leg-between, leg-ranging, leg-designator, leg-unlisted}
 use Rattle.route.proofs.legs.read_leg.Statement.{statement}

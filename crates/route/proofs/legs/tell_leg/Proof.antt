@@ -1,7 +1,7 @@
 use native.Mathlib.Omega.{arith}
 use borrow.Author.Needs.{needs}
 use Rattle.records.proofs.Telling.{told-none, told-then, told-within, told-length}
-use Rattle.places.specs.Names.{Held}
+use Rattle.named_places.specs.Names.{Held}
 use Rattle.route.specs.Legs.{HeldLeg, legRecs}
 use Rattle.route.proofs.legs.tell_leg.Statement.{statement}
 use Rattle.route.proofs.legs.tell_leg.Tie as tie

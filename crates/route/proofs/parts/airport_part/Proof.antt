@@ -2,7 +2,7 @@ use native.Mathlib.Omega.{arith}
 use Rattle.cursor.specs.Ranges.{ends}
 use Rattle.cursor.specs.Numbers.{lowest, highest}
 use Rattle.records.proofs.Telling.{told-length}
-use Rattle.places.proofs.NameLaws.{airport-size}
+use Rattle.named_places.proofs.NameLaws.{airport-size}
 use Rattle.route.proofs.PartLaws.{optional-none, optional-untold, optional-told}
 use Rattle.route.proofs.parts.airport_part.Statement.{statement}
 use Rattle.route.proofs.parts.airport_part.Tie as tie

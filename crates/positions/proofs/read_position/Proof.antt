@@ -1,0 +1,32 @@
+use borrow.Author.Needs.{needs}
+use Rattle.named_places.proofs.NameLaws.{fix-size, navaid-size, airport-size}
+use Rattle.positions.proofs.PositionLaws.{position-fix, position-navaid, position-airport, position-coordinates, position-unread}
+use Rattle.positions.proofs.read_position.Statement.{statement}
+use Rattle.positions.proofs.read_position.Tie as tie
+
+read-named-requires : tie.Need-read-named-requires
+read-named-requires c κs = fix-size
+
+returns : tie.Need-returns
+returns c = position-fix (c .before .before .before .before .bits .result) (c .before .before .before .before .bits .ensures) (c .before .before .before .if1 .taken) (c .before .before .read-named .result) (c .before .before .read-named .ensures)
+
+read-named-requires-2 : tie.Need-read-named-requires-2
+read-named-requires-2 c κs = navaid-size
+
+returns-2 : tie.Need-returns-2
+returns-2 c = position-navaid (c .before .before .before .before .before .bits .result) (c .before .before .before .before .before .bits .ensures) (c .before .before .before .if2 .taken) (c .before .before .read-named2 .result) (c .before .before .read-named2 .ensures)
+
+ia5-requires : tie.Need-ia5-requires
+ia5-requires c κs = airport-size
+
+returns-3 : tie.Need-returns-3
+returns-3 c = position-airport (c .before .before .before .before .before .before .bits .result) (c .before .before .before .before .before .before .bits .ensures) (c .before .before .before .if3 .taken) (c .before .before .ia5 .result) (c .before .before .ia5 .ensures)
+
+returns-4 : tie.Need-returns-4
+returns-4 c = position-coordinates (c .before .before .before .before .before .before .before .bits .result) (c .before .before .before .before .before .before .before .bits .ensures) (c .before .before .before .if4 .taken) (c .before .before .read-latlon .result) (c .before .before .read-latlon .ensures)
+
+returns-5 : tie.Need-returns-5
+returns-5 c = position-unread (c .before .before .before .before .before .bits .result) (c .before .before .before .before .before .bits .ensures) (c .before .before .before .before .if1 .left) (c .before .before .before .if2 .left) (c .before .before .if3 .left) (c .before .if4 .left) (c .stop .ensures)
+
+pub read-position-spec : {M : Type 1} → statement M
+read-position-spec = tie.close (tie.spec (λ c κs. search needs) read-named-requires returns read-named-requires-2 returns-2 ia5-requires returns-3 (λ c κs. search needs) returns-4 (λ c κs. search needs) returns-5)
