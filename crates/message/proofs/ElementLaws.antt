@@ -23,7 +23,7 @@ use Rattle.records.proofs.Telling.{told-none}
 use Rattle.runs.specs.declared.At.{At}
 use Rattle.runs.specs.Runs.{Runs}
 use Rattle.runs.proofs.RunLaws.{runs-then, runs-same, runs-told, runs-untold, runs-stayed, runs-silent, runs-within, runs-pull, dropped, led-lax, led-lax-lack, ran-lax}
-use Rattle.arguments.specs.Arguments.{argumentBody}
+use Rattle.argument_values.specs.Arguments.{argumentBody}
 use Rattle.message.specs.Elements.{argumentAt, elementFormat, elementAt, elementsAt}
 
 ---------------------------------------------------------------- the table

@@ -4,13 +4,13 @@ ghost use lib.ListN.{length};
 ghost use Rattle.message.specs.Elements.{argumentAt, elementAt, elementsAt};
 ghost use Rattle.runs.specs.Runs.{Runs};
 use arguments::read_argument;
-use arguments::tell_argument;
 use cursor::place::Cursor;
 use cursor::place::bits;
 use cursor::place::stop;
 use per::width::index_width;
 use records::emit;
 use runs::At;
+use tell_arguments::tell_argument;
 
 // The argument of the element number i, by the byte of the table.
 fn read_told_argument(s: &[u8], words: &mut [u64], x: At, byte: u8, i: u64) -> At
