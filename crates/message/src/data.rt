@@ -8,12 +8,12 @@ use super::fields::acknowledgment_field;
 use super::fields::date_time_field;
 use super::fields::maybe_number_field;
 use super::fields::number_field;
+use constrained_data::read_constrained;
 use cursor::place::Cursor;
 use cursor::place::presence;
 use cursor::ranges::ELEMENTS;
 use cursor::ranges::MSG_ID;
 use cursor::texts::size;
-use route::constrained::read_constrained;
 use runs::At;
 
 fn maybe_constrained(s: &[u8], words: &mut [u64], x: At, has: u64) -> At
