@@ -24,8 +24,9 @@ use Rattle.runs.specs.declared.At.{At}
 use Rattle.runs.specs.Runs.{Ran, Runs}
 use Rattle.runs.proofs.RunLaws.{runs-silent, runs-within, runs-clear, runs-set, ran-inside, ran-back, ran-must, ran-last, ran-may, ran-last-may, ran-note, ran-opened}
 use Rattle.runs.proofs.SizeLaws.{runs-sized}
-use Rattle.message.specs.Fields.{numberField, maybeNumberField, dateTimeField, acknowledgmentField}
-use Rattle.message.specs.Elements.{elementFormat, elementsAt, constrainedAt, dataAt, messageAt}
+use Rattle.message_fields.specs.Fields.{numberField, maybeNumberField, dateTimeField, acknowledgmentField}
+use Rattle.elements.specs.Elements.{elementFormat, elementsAt}
+use Rattle.message.specs.Data.{constrainedAt, dataAt, messageAt}
 
 pub elements-size : SizeRow 54
 unfolding lowest highest ends

@@ -29,7 +29,7 @@ use Rattle.runs.specs.Windows.{closedWhy, closed}
 use Rattle.runs.proofs.FrameLaws.{soft-went, soft-out, soft-bad}
 use Rattle.runs.proofs.RunLaws.{runs-within}
 use Rattle.runs.proofs.AttemptLaws.{lax-ends}
-use Rattle.message.specs.Elements.{dataAt}
+use Rattle.message.specs.Data.{dataAt}
 use Rattle.pdus.specs.declared.forward.HeaderAt.{HeaderAt}
 use Rattle.pdus.specs.Parts.{laxData}
 use Rattle.pdus.specs.Strings.{Lacks, Has}

@@ -18,8 +18,8 @@ use Rattle.cursor.specs.Texts.{SizeRow, Texts}
 use Rattle.cursor.proofs.Laws.{reads-same}
 use Rattle.cursor.proofs.LengthLaws.{passes-ok}
 use Rattle.cursor.proofs.FormatLaws.{allRead, takes-plain, fields-must, fields-last}
-use Rattle.message.specs.declared.times.DateTimeAt.{DateTimeAt}
-use Rattle.message.specs.Times.{DateTimes}
+use Rattle.date_times.specs.declared.DateTimeAt.{DateTimeAt}
+use Rattle.date_times.specs.Times.{DateTimes}
 use Rattle.atn.specs.Reading.{or}
 use Rattle.pdus.specs.declared.forward.HeaderAt.{HeaderAt}
 use Rattle.pdus.specs.Forward.{Headers, Forgives}

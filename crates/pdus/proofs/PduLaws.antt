@@ -31,7 +31,7 @@ use Rattle.runs.proofs.RunLaws.{ran-inside, ran-back, ran-last, ran-may, ran-op
 use Rattle.enumerations.specs.declared.NameAt.{NameAt}
 use Rattle.enumerations.specs.Readers.{Reasons}
 use Rattle.enumerations.specs.Records.{nameRecs}
-use Rattle.message.specs.Fields.{numberField, maybeNumberField}
+use Rattle.message_fields.specs.Fields.{numberField, maybeNumberField}
 use Rattle.pdus.specs.Parts.{protected}
 use Rattle.pdus.specs.Forward.{forwardAt}
 use Rattle.pdus.specs.Pdus.{reasonAt, startAt, extensionAt, alternatives, alternativeAt, indexBits, pduAt}

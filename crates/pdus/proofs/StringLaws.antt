@@ -17,7 +17,7 @@ use Rattle.cursor.specs.declared.place.Cursor.{Cursor}
 use Rattle.cursor.specs.declared.lengths.Measured.{Measured}
 use Rattle.cursor.specs.Lengths.{Measures, Passes}
 use Rattle.cursor.specs.Place.{stopped, Inside}
-use Rattle.message.specs.Elements.{messageAt}
+use Rattle.message.specs.Data.{messageAt}
 use Rattle.runs.specs.declared.At.{At}
 use Rattle.runs.specs.Runs.{Runs}
 use Rattle.runs.specs.Windows.{closed, Tells}

@@ -10,7 +10,7 @@ use Rattle.atn.specs.Tags as tag
 use Rattle.cursor.specs.declared.place.Cursor.{Cursor}
 use Rattle.cursor.specs.Place.{put, Takes}
 use Rattle.cursor.specs.Texts.{textRecs, InFrame}
-use Rattle.message.specs.Times.{dateTimeRecs}
+use Rattle.date_times.specs.Times.{dateTimeRecs}
 use Rattle.pdus.specs.declared.forward.Header.{Header}
 use Rattle.pdus.specs.declared.forward.HeaderAt.{HeaderAt}
 

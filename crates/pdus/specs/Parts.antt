@@ -7,7 +7,7 @@ use Rattle.atn.specs.Format.{inner, soft, anySpan, skipped}
 use Rattle.atn.specs.Messages.{atcMessage, protectedMessage}
 use Rattle.atn.specs.Reading.{Rec, rec, Ans, ok, fork, laxly, read}
 use Rattle.atn.specs.Tags as tag
-use Rattle.message.specs.Elements.{dataAt}
+use Rattle.message.specs.Data.{dataAt}
 
 unfoldable pub integrity : List ℕ → ℕ → ℕ → Ans
 integrity s e p = read (soft 7 false (anySpan tag.integrity-check 1)) (0, 0) (bitOf s) e p

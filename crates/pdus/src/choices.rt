@@ -19,7 +19,7 @@ use cursor::ranges::PROVIDER_ABORT_REASON;
 use cursor::ranges::SIDE;
 use cursor::ranges::USER_ABORT_REASON;
 use enumerations::read_reason;
-use message::fields::maybe_number_field;
+use message_fields::maybe_number_field;
 use records::emit;
 use runs::At;
 use tell_values::tell_name;
