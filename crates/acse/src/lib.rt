@@ -3,11 +3,6 @@ ghost use Rattle.atn.specs.Entries.{parse-acse-apdu};
 ghost use Rattle.answers.specs.Says.{Says};
 use answers::Answer;
 
-mod tags; // tags.rt
-mod notes; // notes.rt: records by value
-mod reasons; // reasons.rt: reasons behind an extension bit
-mod bodies; // bodies.rt: release and abort
-mod apdu; // apdu.rt: the message
 mod telling; // telling.rt: its records, in lent words
 
 // The bytes of the longest frame.
@@ -23,15 +18,15 @@ pub fn parse_acse_apdu(frame: &[u8], words: &mut [u64]) -> Answer
             need: 0,
         };
     }
-    let apdu = apdu::read_apdu(frame);
+    let apdu = acse_apdus::read_apdu(frame);
     match apdu {
-        apdu::Apdu::Heard(message) => telling::settle_message(message, words),
-        apdu::Apdu::RanOut(reach) => Answer::Refused {
+        acse_apdus::Apdu::Heard(message) => telling::settle_message(message, words),
+        acse_apdus::Apdu::RanOut(reach) => Answer::Refused {
             number: 4,
             reach: reach,
             need: 0,
         },
-        apdu::Apdu::Badly(reach) => Answer::Refused {
+        acse_apdus::Apdu::Badly(reach) => Answer::Refused {
             number: 5,
             reach: reach,
             need: 0,

@@ -3,9 +3,9 @@ ghost use Prim.Native.Nat.{_*_, _≤_};
 ghost use lib.ListN.{length};
 use answers::Answer;
 use cpdlc::parse_apdu;
-use lines::hex::decode;
-use lines::output::Output;
-use lines::output::put;
+use hexadecimal::decode;
+use line_output::output::Output;
+use line_output::output::put;
 use lines::said::accepted;
 use lines::said::refused;
 

@@ -1,10 +1,10 @@
 // `apdu-lines` of document 01: a frame in hexadecimal a line in, what `parse_apdu` says of it a line out. The files `stdin` and `stdout` are document 01's, with cases behind them.
 ghost use Prim.Native.Nat.{_*_, _≤_};
 ghost use lib.ListN.{length};
-ghost use Rattle.lines.specs.Flow.{Runs};
-use lines::flow::Flow;
-use lines::input::next;
-use lines::output::put;
+ghost use Rattle.line_flow.specs.Flow.{Runs};
+use line_flow::Flow;
+use line_input::input::next;
+use line_output::output::put;
 
 mod frames; // frames.rt: a frame and its answer
 
@@ -21,7 +21,7 @@ fn main() {
 fn all(taken: &mut [u8], gathered: &mut [u8], line: &mut [u8], frame: &mut [u8], words: &mut [u64])
     requires { ⌜ length (now line) ≤ length (now frame) * 2 ⌝ }
 {
-    let mut flow = lines::flow::start();
+    let mut flow = line_flow::start();
     let mut turns = u64::MAX;
     while 0 < turns {
         flow = turn(taken, gathered, line, frame, words, flow);
@@ -50,13 +50,13 @@ fn turn(
     let l = next(taken, input, line);
     let rest = l.rest;
     if l.none {
-        return lines::flow::ended(gathered, rest, output);
+        return line_flow::ended(gathered, rest, output);
     }
     if l.long {
         let told = put(gathered, output, b"no 1 0\n");
-        return lines::flow::answered(gathered, rest, told);
+        return line_flow::answered(gathered, rest, told);
     }
     let len = l.len;
     let told = frames::answer(gathered, output, &line[..len], frame, words);
-    lines::flow::answered(gathered, rest, told)
+    line_flow::answered(gathered, rest, told)
 }

@@ -1,30 +1,18 @@
--- Arguments by their bytes, and the records of a frequency.
+-- Arguments by their bytes.
 use mathlib.Core.Path.{_≡_, refl}
-use mathlib.Core.List.{List, [], _∷_}
-use Prim.Native.Nat.{ℕ, zero, suc, _≤_, _<_}
+use mathlib.Core.List.{List}
+use Prim.Native.Nat.{ℕ, zero, suc, _≤_}
 use native.Mathlib.Omega.{arith}
 use lib.ListN.{List·getD-eq-default}
 use Rattle.atn.specs.Format.{bad}
-use Rattle.atn.specs.Reading.{rec}
 use Rattle.atn.specs.Messages.{argumentOf}
 use Rattle.atn.specs.Messages as message
-use Rattle.records.specs.Told.{Told}
-use Rattle.records.proofs.Telling.{told-within}
 use Rattle.cursor.specs.declared.place.Cursor.{Cursor}
 use Rattle.cursor.specs.Place.{stopped}
-use Rattle.cursor.specs.Texts.{channelRecs}
 use Rattle.cursor.proofs.FormatLaws.{takes-null, takes-refuse}
-use Rattle.small.specs.declared.frequency.Frequency.{Frequency}
-use Rattle.small.specs.Records.{frequencyRecs}
-use Rattle.small.proofs.FrequencyLaws.{number-recs, channel-recs}
-use Rattle.places.specs.declared.names.Procedure.{Procedure}
-use Rattle.places.specs.declared.positions.Departure.{Departure}
-use Rattle.places.specs.Names.{Held}
-use Rattle.places.specs.Positions.{HeldPosition}
-use Rattle.arguments.specs.declared.Argument.{Argument}
-use Rattle.arguments.specs.declared.Argument.the-variants.{Nothing, Procedure as TheProcedure, Departure as TheDeparture}
-use Rattle.arguments.specs.declared.ArgumentAt.{ArgumentAt}
-use Rattle.arguments.specs.Arguments.{argumentBody, argumentRecs, HeldArgument, Arguments}
+use Rattle.argument_values.specs.declared.Argument.the-variants.{Nothing}
+use Rattle.argument_values.specs.declared.ArgumentAt.{ArgumentAt}
+use Rattle.argument_values.specs.Arguments.{argumentBody, argumentRecs, HeldArgument, Arguments}
 
 -- what a byte above 0 stands for in a table is its argument, whose failure ends the walk
 pub argument-of : (k : ℕ) → argumentOf (suc k) ≡ message.argument (argumentBody (suc k))
@@ -61,24 +49,3 @@ beyond (suc k) h = List·getD-eq-default message.arguments message.noReader {n =
 pub no-reader : {k : ℕ} {s : List ℕ} {c d : Cursor} → NoneBelow 17 k → d ≡ stopped c 5 0 → Arguments k s c (record { argument = Nothing; c = d })
 unfolding HeldArgument
 no-reader {k} {s} {c} {d} h q = record { reads = rw (beyond k (none-below 17 h)) (takes-refuse bad 0 (λ z. omega arith) q); held = tt }
-
----------------------------------------------------------------- the texts in an argument
-
-pub procedure-held : {s : List ℕ} {x : Argument} {v : Procedure} → x ≡ TheProcedure v → HeldArgument s x → Held s (v .name) × Held s (v .transition)
-unfolding HeldArgument
-procedure-held q h = rw q at h
-
-pub departure-held : {s : List ℕ} {x : Argument} {v : Departure} → x ≡ TheDeparture v → HeldArgument s x → Held s (v .flight) × HeldPosition s (v .position)
-unfolding HeldArgument
-departure-held q h = rw q at h
-
----------------------------------------------------------------- the records of a frequency
-
-module _ (s : List ℕ) (v : Frequency) (e : ℕ) {w w′ : List ℕ} {n m : ℕ} where
-  pub told-number : v .kind < 3 → Told 2 w w′ n m (rec 57 e (v .kind) 0 ∷ rec 58 e (v .number) 0 ∷ []) → Told 3 w w′ n m (frequencyRecs s v e)
-  unfolding frequencyRecs
-  told-number h p = told-within {j = 2} 3 (omega arith) (rw (number-recs (v .kind) s v e h) p)
-
-  pub told-channel : 3 ≤ v .kind → Told 3 w w′ n m (rec 57 e (v .kind) 0 ∷ channelRecs 59 e s (v .channel)) → Told 3 w w′ n m (frequencyRecs s v e)
-  unfolding frequencyRecs
-  told-channel h p = rw (channel-recs (v .kind) s v e h) p

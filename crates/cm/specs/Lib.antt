@@ -1,3 +1,1 @@
-pub mod Does
-pub mod Parts
-pub mod Pdus
+pub mod Parsed

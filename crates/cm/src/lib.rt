@@ -3,19 +3,12 @@ ghost use mathlib.Core.Path.{_≡_};
 ghost use Rattle.atn.specs.Entries.{parse-cm-ground, parse-cm-logon};
 ghost use Rattle.answers.specs.declared.Answer.the-variants.{Refused};
 ghost use Rattle.answers.specs.Says.{Says};
-ghost use Rattle.cm.specs.Pdus.{parsed};
+ghost use Rattle.cm.specs.Parsed.{parsed};
 use answers::Answer;
+use cm_parts::parts::Step;
+use cm_pdus::pdu;
 use cursor::place::Cursor;
-use parts::Step;
-use pdus::pdu;
 use records::space::words_for;
-
-mod tags; // tags.rt
-mod parts; // parts.rt: numbers, texts and reasons, told as they are read
-mod spans; // spans.rt: octets that are told by where they stand
-mod lists; // lists.rt: lists of applications
-mod logon; // logon.rt: logon requests and responses
-mod pdus; // pdus.rt: the messages of the two sides
 
 // The bytes of the longest frame.
 const LONGEST: usize = 8192;

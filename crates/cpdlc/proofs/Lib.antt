@@ -1,3 +1,1 @@
-pub mod ReadingLaws
-pub mod VerdictLaws
 pub mod EntryLaws

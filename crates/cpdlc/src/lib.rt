@@ -4,16 +4,12 @@ ghost use Rattle.atn.specs.Entries.{parse-pdus, parse-apdu};
 ghost use Rattle.answers.specs.Says.{Says};
 ghost use Rattle.answers.specs.declared.Answer.the-variants.{Refused};
 use answers::Answer;
-use frames::answer_frame;
-use frames::try_frame;
-use tables::tables_fit;
+use cpdlc_frames::answer_frame;
+use cpdlc_frames::try_frame;
+use lent_tables::tables_fit;
 use verdicts::Verdict;
 use verdicts::after_bad;
 use verdicts::after_out;
-
-mod tables; // tables.rt: the test of the lent tables
-mod verdicts; // verdicts.rt: what a reading says before its records are written
-mod frames; // frames.rt: a frame read without words, and with them
 
 // The bytes of the longest frame.
 const LONGEST: usize = 8192;

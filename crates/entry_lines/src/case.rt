@@ -9,8 +9,8 @@ use super::names::has_direction;
 use super::names::is_there;
 use super::names::named;
 use check::same;
-use lines::decimal::Numeral;
-use lines::decimal::number;
+use decimal::Numeral;
+use decimal::number;
 
 // What the line says, or that it is no case; how many octets the tables and the frame have, and how many words are lent.
 pub struct Case {

@@ -4,7 +4,7 @@ ghost use lib.ListN.{length};
 ghost use Rattle.entry_lines.specs.Fields.{InLine};
 use bytes::scan::find;
 use check::same;
-use lines::hex::Decoded;
+use hexadecimal::Decoded;
 
 // From where to where, and where the next one starts; at the line's end where there is none.
 pub struct Stretch {
@@ -54,7 +54,7 @@ pub fn octets(text: &[u8], out: &mut [u8]) -> Decoded
             count: 0,
         };
     }
-    lines::hex::decode(text, out)
+    hexadecimal::decode(text, out)
 }
 
 pub fn part(line: &[u8], f: Stretch) -> &[u8]

@@ -1,11 +1,11 @@
 // Any entry, with any tables and room: a case a line in, its answer a line out. tools/differential/README.md has the form of both. CASES.md says where the answers in the file `stdout` are from.
 ghost use Prim.Native.Nat.{_≤_};
 ghost use lib.ListN.{length};
-ghost use Rattle.lines.specs.Flow.{Runs};
-use lines::flow::Flow;
-use lines::input::next;
-use lines::output::Output;
-use lines::output::put;
+ghost use Rattle.line_flow.specs.Flow.{Runs};
+use line_flow::Flow;
+use line_input::input::next;
+use line_output::output::Output;
+use line_output::output::put;
 use names::Entry;
 
 mod names; // names.rt: the entries by name
@@ -44,7 +44,7 @@ fn all(
     frame: &mut [u8],
     words: &mut [u64],
 ) {
-    let mut flow = lines::flow::start();
+    let mut flow = line_flow::start();
     let mut turns = u64::MAX;
     while 0 < turns {
         flow = turn(taken, gathered, line, down, up, frame, words, flow);
@@ -74,15 +74,15 @@ fn turn(
     let l = next(taken, input, line);
     let rest = l.rest;
     if l.none {
-        return lines::flow::ended(gathered, rest, output);
+        return line_flow::ended(gathered, rest, output);
     }
     let len = l.len;
     if l.long {
         let told = put(gathered, output, b"no line\n");
-        return lines::flow::answered(gathered, rest, told);
+        return line_flow::answered(gathered, rest, told);
     }
     let told = answer(gathered, output, &line[..len], down, up, frame, words);
-    lines::flow::answered(gathered, rest, told)
+    line_flow::answered(gathered, rest, told)
 }
 
 fn answer(

@@ -1,9 +1,9 @@
 // What both programs say of an answer. Reach, mark sum and number of records, or number and reach.
 ghost use Prim.Native.Nat.{_≤_};
 ghost use lib.ListN.{length};
-use super::output::Output;
-use super::output::put;
-use super::output::put_number;
+use line_output::output::Output;
+use line_output::output::put;
+use line_output::output::put_number;
 
 pub fn accepted(
     space: &mut [u8],

@@ -15,8 +15,7 @@ use Rattle.cursor.specs.declared.place.Cursor.{Cursor}
 use Rattle.cursor.specs.declared.place.Got.{Got}
 use Rattle.cursor.specs.Numbers.{lowest, highest}
 use Rattle.cursor.specs.Place.{Inside, Opens}
-use Rattle.cursor.specs.Ranges.{rowAt}
-use Rattle.cursor.specs.Texts.{SizeRow, Sized}
+use Rattle.cursor.specs.Texts.{Sized}
 use Rattle.cursor.proofs.Laws.{reads-ok, marked-nil}
 use Rattle.cursor.proofs.FormatLaws.{allRead, opened-inside, opened-bit, last-bit}
 use Rattle.records.proofs.Telling.{told-then}
@@ -24,8 +23,9 @@ use Rattle.runs.specs.declared.At.{At}
 use Rattle.runs.specs.Runs.{Ran, Runs}
 use Rattle.runs.proofs.RunLaws.{runs-silent, runs-within, runs-clear, runs-set, ran-inside, ran-back, ran-must, ran-last, ran-may, ran-last-may, ran-note, ran-opened}
 use Rattle.runs.proofs.SizeLaws.{runs-sized}
-use Rattle.message.specs.Fields.{numberField, maybeNumberField, dateTimeField, acknowledgmentField}
-use Rattle.message.specs.Elements.{elementFormat, elementsAt, constrainedAt, dataAt, messageAt}
+use Rattle.message_fields.specs.Fields.{numberField, maybeNumberField, dateTimeField, acknowledgmentField}
+use Rattle.elements.specs.Elements.{elementFormat, elementsAt}
+use Rattle.message.specs.Data.{constrainedAt, dataAt, messageAt}
 
 ---------------------------------------------------------------- the data
 

@@ -1,3 +1,1 @@
-pub mod FieldLaws
-pub mod ElementLaws
 pub mod DataLaws

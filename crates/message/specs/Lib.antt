@@ -1,3 +1,1 @@
-pub mod Times
-pub mod Fields
-pub mod Elements
+pub mod Data

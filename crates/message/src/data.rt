@@ -1,19 +1,19 @@
 // The message: its header, its elements, and the constrained data behind them.
 ghost use Prim.Native.Nat.{_^_, _≤_, _<_};
 ghost use lib.ListN.{length};
-ghost use Rattle.message.specs.Elements.{constrainedAt, dataAt, messageAt};
+ghost use Rattle.message.specs.Data.{constrainedAt, dataAt, messageAt};
 ghost use Rattle.runs.specs.Runs.{Runs};
-use super::elements::read_elements;
-use super::fields::acknowledgment_field;
-use super::fields::date_time_field;
-use super::fields::maybe_number_field;
-use super::fields::number_field;
+use constrained_data::read_constrained;
 use cursor::place::Cursor;
 use cursor::place::presence;
 use cursor::ranges::ELEMENTS;
 use cursor::ranges::MSG_ID;
 use cursor::texts::size;
-use route::constrained::read_constrained;
+use elements::read_elements;
+use message_fields::acknowledgment_field;
+use message_fields::date_time_field;
+use message_fields::maybe_number_field;
+use message_fields::number_field;
 use runs::At;
 
 fn maybe_constrained(s: &[u8], words: &mut [u64], x: At, has: u64) -> At

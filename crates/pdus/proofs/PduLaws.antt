@@ -1,148 +1,26 @@
--- The message choices from their alternatives.
+-- The message choice from its index and its alternative.
 use mathlib.Core.Path.{_≡_, refl, sym, ap, _∙_}
-use mathlib.Core.List.{List, [], _∷_, _++_}
-use Prim.Native.Nat.{ℕ, zero, suc, _+_, _%_, _≤_, _<_}
-use native.Mathlib.Nat.{add-zero}
+use mathlib.Core.List.{List, [], _∷_}
+use Prim.Native.Nat.{ℕ, zero, suc, _+_, _≤_}
 use native.Mathlib.Omega.{arith}
 use Rattle.x691.specs.Bits.{bitOf}
 use Rattle.x691.specs.Encoding.{width, widthIn, count}
 use Rattle.x691.specs.Encoding as encoding
 use Rattle.atn.specs.Entries.{pdus}
-use Rattle.atn.specs.Format.{Fmt, Alts, bad, num, small, noted, ext, seq, choice, end, _⨾_, _⨾?_, none-left, _∥_, alternativesOf}
-use Rattle.atn.specs.Messages.{extReason, protectedMessage, forward, extensionAlternative}
-use Rattle.atn.specs.Reading.{Rec, rec, Ans, ok, stop, mark, flags, read, readChoice}
+use Rattle.atn.specs.Format.{Fmt, Alts, noted, ext, choice, alternativesOf}
+use Rattle.atn.specs.Messages.{extensionAlternative}
+use Rattle.atn.specs.Reading.{rec, read}
 use Rattle.atn.specs.Tags as tag
-use Rattle.atn.proofs.Tame.{tame}
 use Rattle.cursor.specs.declared.place.Cursor.{Cursor}
 use Rattle.cursor.specs.declared.place.Got.{Got}
-use Rattle.cursor.specs.Lengths.{Smalls}
-use Rattle.cursor.specs.Numbers.{lowest, highest}
-use Rattle.cursor.specs.Place.{marked, stopped, Pulls, Opens}
-use Rattle.cursor.proofs.Laws.{reads-same, reads-stop}
-use Rattle.cursor.proofs.LengthLaws.{takes-small}
-use Rattle.cursor.proofs.FormatLaws.{allRead, opened-inside, last-bit}
+use Rattle.cursor.specs.Place.{marked, Pulls}
 use Rattle.records.specs.Told.{Told}
-use Rattle.records.proofs.Telling.{told-then}
 use Rattle.runs.specs.declared.At.{At}
 use Rattle.runs.specs.Runs.{Runs}
 use Rattle.runs.proofs.FrameLaws.{runs-noted, runs-root, runs-extended, runs-no-index, runs-index}
-use Rattle.runs.proofs.RunLaws.{ran-inside, ran-back, ran-last, ran-may, ran-opened, runs-same, runs-told, runs-untold, runs-silent, runs-stayed, runs-within}
-use Rattle.small.specs.declared.names.NameAt.{NameAt}
-use Rattle.small.specs.Readers.{Reasons}
-use Rattle.small.specs.Records.{nameRecs}
-use Rattle.message.specs.Fields.{numberField, maybeNumberField}
-use Rattle.pdus.specs.Parts.{protected}
-use Rattle.pdus.specs.Forward.{forwardAt}
-use Rattle.pdus.specs.Pdus.{reasonAt, startAt, extensionAt, alternatives, alternativeAt, indexBits, pduAt}
-
----------------------------------------------------------------- the parts
-
-module _ (row t : ℕ) {s : List ℕ} {c : Cursor} {g : NameAt} {n : ℕ} {w : List ℕ} (h : Reasons row s c g) where
-  pub reason-told : {m : ℕ} {w′ : List ℕ} → g .c .why ≡ 0 → Told 1 w w′ n m (nameRecs t (g .name) 0) → Runs 1 (reasonAt row t s) s c n w w′ (record { n = m; c = g .c })
-  unfolding reasonAt
-  reason-told z x = runs-told (reasonAt row t s) (h .reads t .took (0, 0)) z x
-
-  pub reason-untold : (g .c .why ≡ 0 → ⊥) → Runs 1 (reasonAt row t s) s c n w w (record { n = n; c = g .c })
-  unfolding reasonAt
-  reason-untold z = runs-within 1 (reasonAt row t s) (omega arith) (runs-untold (reasonAt row t s) (h .reads t .took (0, 0)) z)
-
-module _ (down : List ℕ) {s : List ℕ} {c : Cursor} {g : Got} {n : ℕ} {w w₁ w₂ : List ℕ} {r t : At} (opens : Opens s c 1 g) where
-  pub start-read : {b : ℕ} → Runs 1 (maybeNumberField (g .v % 2) 0 7 s) s (g .c) n w w₁ r → Runs b (protected down s) s (r .c) (r .n) w₁ w₂ t → Runs (1 + b) (startAt down s) s c n w w₂ t
-  unfolding startAt maybeNumberField numberField protected lowest highest tame flags allRead
-  start-read x y =
-      record {
-        recs = x .recs ++ y .recs;
-        ran = λ i.
-            let i₀ = opened-inside i opens in
-            let run = x .ran i₀ in
-            let i₁ = ran-inside _ s (g .c) (r .c) run i₀ in
-            let bit : g .c .why ≡ 0 → g .v % 2 ≡ bitOf s (c .at) = λ h. last-bit 0 i opens h ∙ ap (bitOf s) (add-zero (c .at)) in
-            ran-opened (num tag.mode 0 1 ⨾? protectedMessage down ⨾ end) (0, 0) 1 g refl refl i (opens .gave i)
-            (ran-may (0, 0) s (num tag.mode 0 1) (protectedMessage down ⨾ end) (c .at) (g .v % 2) refl bit run (ran-last (0, 0) s (protectedMessage down) (suc (c .at)) (y .ran i₁)));
-        told = told-then (x .told) (y .told);
-      }
-
--- the index of an alternative behind the extension bit
-module _ {s : List ℕ} {c d : Cursor} {g : Got} {n m : ℕ} {w w₁ : List ℕ} (goes : c .why ≡ 0) (t : Told 1 w w₁ n m (rec 2 0 0 1 ∷ [])) (q : d ≡ marked c 2) (h : Smalls s d g) where
-  pub extension-untold : (g .c .why ≡ 0 → ⊥) → Runs 2 (extensionAt s) s c n w w₁ (record { n = m; c = g .c })
-  unfolding extensionAt mark
-  extension-untold z =
-      runs-within 2 (extensionAt s) (omega arith)
-      (runs-noted (0, 0) tag.pdu 0 1 (small 2 tag.extension-index) goes t (runs-untold (λ u p. read (small 2 tag.extension-index) (0, 0) (bitOf s) u p) (takes-small 2 tag.extension-index q h .took (0, 0)) z))
-
-  pub extension-told : {k : ℕ} {w₂ : List ℕ} → g .c .why ≡ 0 → Told 1 w₁ w₂ m k (rec 3 0 (g .v) 0 ∷ []) → Runs 2 (extensionAt s) s c n w w₂ (record { n = k; c = g .c })
-  unfolding extensionAt mark
-  extension-told z u = runs-noted (0, 0) tag.pdu 0 1 (small 2 tag.extension-index) goes t (runs-told (λ u p. read (small 2 tag.extension-index) (0, 0) (bitOf s) u p) (takes-small 2 tag.extension-index q h .took (0, 0)) z u)
-
----------------------------------------------------------------- the alternatives
-
-module _ (v : ℕ) (down up : List ℕ) {b : ℕ} {s : List ℕ} {c : Cursor} {n : ℕ} {w w′ : List ℕ} {r : At} where
-  -- of both directions: the reasons of aborts
-  pub user-abort : (d : ℕ) → v ≡ 0 → Runs b (reasonAt 37 4 s) s c n w w′ r → Runs b (alternativeAt d v down up s) s c n w w′ r
-  unfolding alternativeAt reasonAt readChoice highest
-  user-abort zero q x = rw q x
-  user-abort (suc d) q x = rw q x
-
-  pub provider-abort : (d : ℕ) → v ≡ 1 → Runs b (reasonAt 38 5 s) s c n w w′ r → Runs b (alternativeAt d v down up s) s c n w w′ r
-  unfolding alternativeAt reasonAt readChoice highest
-  provider-abort zero q x = rw q x
-  provider-abort (suc d) q x = rw q x
-
-  -- of the downlink
-  pub down-start : v ≡ 2 → Runs b (startAt down s) s c n w w′ r → Runs b (alternativeAt 0 v down up s) s c n w w′ r
-  unfolding alternativeAt startAt readChoice
-  down-start q x = rw q x
-
-  pub down-send : v ≡ 3 → Runs b (protected down s) s c n w w′ r → Runs b (alternativeAt 0 v down up s) s c n w w′ r
-  unfolding alternativeAt protected readChoice
-  down-send q x = rw q x
-
-  -- of the uplink
-  pub up-start-or-send : (v ≡ 0 → ⊥) → (v ≡ 1 → ⊥) → v < 4 → Runs b (protected up s) s c n w w′ r → Runs b (alternativeAt 1 v down up s) s c n w w′ r
-  unfolding alternativeAt protected readChoice
-  up-start-or-send = go v
-    where
-      go : (v : ℕ) → (v ≡ 0 → ⊥) → (v ≡ 1 → ⊥) → v < 4 → Runs b (protected up s) s c n w w′ r → Runs b (alternativeAt 1 v down up s) s c n w w′ r
-      go zero n₀ n₁ l x = absurd (n₀ refl)
-      go (suc zero) n₀ n₁ l x = absurd (n₁ refl)
-      go (suc (suc zero)) n₀ n₁ l x = x
-      go (suc (suc (suc zero))) n₀ n₁ l x = x
-      go (suc (suc (suc (suc v)))) n₀ n₁ l x = absurd (omega arith)
-
-  pub up-forward : v ≡ 4 → Runs b (forwardAt down up s) s c n w w′ r → Runs b (alternativeAt 1 v down up s) s c n w w′ r
-  unfolding alternativeAt forwardAt readChoice
-  up-forward q x = rw q x
-
-  pub up-response : v ≡ 5 → Runs b (reasonAt 39 6 s) s c n w w′ r → Runs b (alternativeAt 1 v down up s) s c n w w′ r
-  unfolding alternativeAt reasonAt readChoice highest
-  up-response q x = rw q x
-
--- an index that no alternative has
-beyond : (fs : Alts) (v : ℕ) (s : List ℕ) (u p : ℕ) → count (alternativesOf fs) ≤ v → readChoice fs v (0, 0) (bitOf s) u p ≡ stop bad p [] 1
-unfolding count readChoice mark
-beyond none-left v s u p h = refl
-beyond (f ∥ fs) zero s u p h = absurd (omega arith)
-beyond (f ∥ fs) (suc v) s u p h = beyond fs v s u p (omega arith)
-
-pub no-alternative : (d v : ℕ) (down up : List ℕ) {b : ℕ} {s : List ℕ} {c e : Cursor} {n : ℕ} {w : List ℕ} → count (alternativesOf (alternatives d down up)) ≤ v → e ≡ stopped c 5 1
-    → Runs b (alternativeAt d v down up s) s c n w w (record { n = n; c = e })
-unfolding alternativeAt
-no-alternative d v down up {b} {s} {c} h q =
-    runs-within b (alternativeAt d v down up s) (omega arith)
-    (runs-silent (alternativeAt d v down up s) (reads-same (λ u p. stop bad p [] 1) (alternativeAt d v down up s) (sym (beyond (alternatives d down up) v s (c .end) (c .at) h)) (reads-stop bad 1 (λ z. omega arith) q)))
-
-module _ (d v : ℕ) (down up : List ℕ) {b : ℕ} {s : List ℕ} {c : Cursor} {n : ℕ} {w w′ : List ℕ} {r : At} where
-  pub of-downlink : d ≡ 0 → Runs b (alternativeAt 0 v down [] s) s c n w w′ r → Runs b (alternativeAt d v down up s) s c n w w′ r
-  unfolding alternativeAt
-  of-downlink q x = rw q x
-
-  pub of-uplink : (d ≡ 0 → ⊥) → Runs b (alternativeAt 1 v down up s) s c n w w′ r → Runs b (alternativeAt d v down up s) s c n w w′ r
-  unfolding alternativeAt
-  of-uplink = go d
-    where
-      go : (d : ℕ) → (d ≡ 0 → ⊥) → Runs b (alternativeAt 1 v down up s) s c n w w′ r → Runs b (alternativeAt d v down up s) s c n w w′ r
-      go zero h x = absurd (h refl)
-      go (suc d) h x = x
+use Rattle.runs.proofs.RunLaws.{runs-same}
+use Rattle.pdu_alternatives.specs.Alternatives.{extensionAt, alternatives, alternativeAt}
+use Rattle.pdus.specs.Pdus.{indexBits, pduAt}
 
 ---------------------------------------------------------------- the bits of the index
 

@@ -1,13 +1,13 @@
 // How a frame reads, as text.
 use super::frame::BITS;
 use arguments::read_argument;
-use arguments::tell_argument;
 use cursor::place::Cursor;
 use listing::put;
 use listing::put_decimal;
 use listing::put_records;
 use listing::put_text;
 use std::num::wrapping_sub_u64;
+use tell_arguments::tell_argument;
 
 // From the value of the record `place`, counted from 1, the raw value is taken away; 0 is no record.
 pub fn put_reading(line: &mut [u8; 1024], s: &[u8; 48], byte: u8, place: usize, raw: u64) -> usize {

@@ -1,7 +1,7 @@
 use mathlib.Core.Path.{refl, ap, _∙_}
 use Rattle.atn.specs.Entries.{parse-acse-apdu}
 use Rattle.records.proofs.Passes.{settle-out, settle-bad}
-use Rattle.acse.specs.Apdus.{replyOf}
+use Rattle.acse_apdus.specs.Apdus.{replyOf}
 use Rattle.answers.proofs.Entering.{enter-long, enter-reads}
 use borrow.Author.Needs.{needs}
 use Rattle.acse.proofs.parse_acse_apdu.Statement.{statement}

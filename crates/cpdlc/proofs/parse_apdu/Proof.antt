@@ -1,7 +1,8 @@
 use native.Mathlib.Omega.{arith}
 use borrow.Author.Needs.{needs}
-use Rattle.cpdlc.proofs.VerdictLaws.{follows-same, follows-bad, follows-out}
-use Rattle.cpdlc.proofs.EntryLaws.{tables-fail, tables-hold, tables-are, apdu-long, apdu-tables, apdu-reads, says-first, says-out, says-bad}
+use Rattle.verdicts.proofs.VerdictLaws.{follows-same, follows-bad, follows-out}
+use Rattle.lent_tables.proofs.TableLaws.{tables-fail, tables-hold, tables-are}
+use Rattle.cpdlc.proofs.EntryLaws.{apdu-long, apdu-tables, apdu-reads, says-first, says-out, says-bad}
 use Rattle.cpdlc.proofs.parse_apdu.Statement.{statement}
 use Rattle.cpdlc.proofs.parse_apdu.Tie as tie
 

@@ -1,7 +1,8 @@
 use native.Mathlib.Omega.{arith}
 use borrow.Author.Needs.{needs}
-use Rattle.cpdlc.proofs.VerdictLaws.{follows-same}
-use Rattle.cpdlc.proofs.EntryLaws.{tables-fail, tables-hold, tables-are, pdus-long, pdus-tables, pdus-direction, pdus-reads}
+use Rattle.verdicts.proofs.VerdictLaws.{follows-same}
+use Rattle.lent_tables.proofs.TableLaws.{tables-fail, tables-hold, tables-are}
+use Rattle.cpdlc.proofs.EntryLaws.{pdus-long, pdus-tables, pdus-direction, pdus-reads}
 use Rattle.cpdlc.proofs.parse_pdus.Statement.{statement}
 use Rattle.cpdlc.proofs.parse_pdus.Tie as tie
 

@@ -2,7 +2,7 @@
 use mathlib.Core.Path.{_≡_}
 use lib.ListN.{length}
 use borrow.Author.Needs.{needs}
-use Rattle.lines.specs.Flow.{Runs}
+use Rattle.line_flow.specs.Flow.{Runs}
 use Rattle.entry_lines.proofs.all.Statement.{statement}
 use Rattle.entry_lines.proofs.all.Tie as tie
 

@@ -1,5 +1,0 @@
-pub mod GrowLaws
-pub mod FormatLaws
-pub mod SequenceLaws
-pub mod BodyLaws
-pub mod ApduLaws

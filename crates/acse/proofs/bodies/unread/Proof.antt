@@ -1,9 +1,0 @@
-use borrow.Author.Needs.{needs}
-use Rattle.acse.proofs.bodies.unread.Statement.{statement}
-use Rattle.acse.proofs.bodies.unread.Tie as tie
-
-returns : tie.Need-returns
-returns c = rw (c .untold .ensures, c .before .mark .ensures)
-
-pub unread-spec : {M : Type 1} → statement M
-unread-spec = tie.close (tie.spec (λ c κs. search needs) (λ c κs. search needs) returns)

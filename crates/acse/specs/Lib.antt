@@ -1,4 +1,0 @@
-pub mod SoFar
-pub mod Notes
-pub mod Bodies
-pub mod Apdus

@@ -1,0 +1,2 @@
+pub mod GrowLaws
+pub mod FormatLaws

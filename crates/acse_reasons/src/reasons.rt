@@ -1,0 +1,67 @@
+// Reasons behind an extension bit. A set one is told as extended, with mark 2.
+ghost use mathlib.Core.Path.{_≡_};
+ghost use mathlib.Core.Bool.{_&&_};
+ghost use mathlib.Core.List.{[], _∷_};
+ghost use Prim.Native.Nat.{_<_};
+ghost use lib.Dec.{leb};
+ghost use Rattle.x691.specs.Range.{member};
+ghost use Rattle.atn.specs.Reading.{unless};
+ghost use Rattle.atn.specs.Messages.{extReason};
+ghost use Rattle.cursor.specs.Ranges.{Listed};
+ghost use Rattle.cursor.specs.Numbers.{highest};
+ghost use Rattle.cursor.specs.Place.{marked};
+ghost use Rattle.acse_reasons.specs.Notes.{noteAt, noteRecs, listedReason};
+ghost use Rattle.acse_reasons.specs.SoFar.{Keeps};
+use super::notes::NoteAt;
+use super::notes::note_at;
+use cursor::numbers::ranged;
+use cursor::place::Cursor;
+use cursor::place::bits;
+use cursor::place::mark;
+use cursor::ranges::Range;
+
+fn extended(c: Cursor, tag: u64) -> NoteAt
+    ensures { λ r. ⌜ r ≡ noteAt (marked c 2) tag 0 1 ⌝ }
+{
+    let d = mark(c, 2);
+    note_at(d, tag, 0, 1)
+}
+
+// A number of the range, which begins at 0.
+pub fn reason(s: &[u8], c: Cursor, range: Range, tag: u64) -> NoteAt
+    requires { ⌜ Listed range × (range .lo ≡ 0) ⌝ }
+    ensures { λ r. ⌜ Keeps (extReason tag (highest (range .row))) (now (s .entry)) c (r .c) (noteRecs (r .note)) ⌝ }
+{
+    let extension = bits(s, c, 1);
+    if extension.v != 0 {
+        return extended(extension.c, tag);
+    }
+    let number = ranged(s, extension.c, range);
+    note_at(number.c, tag, number.v, 0)
+}
+
+// The mark of a release reason: 0, 1 and 30 are listed.
+fn unlisted(v: u64) -> u64
+    ensures { λ r. ⌜ r ≡ unless (leb v 30 && member v (0 ∷ 1 ∷ 30 ∷ [])) 1 ⌝ }
+{
+    if v < 2 {
+        return 0;
+    }
+    if v == 30 {
+        return 0;
+    }
+    1
+}
+
+// A release reason: 5 bits.
+pub fn release_reason(s: &[u8], c: Cursor, tag: u64) -> NoteAt
+    ensures { λ r. ⌜ Keeps (listedReason tag) (now (s .entry)) c (r .c) (noteRecs (r .note)) ⌝ }
+{
+    let extension = bits(s, c, 1);
+    if extension.v != 0 {
+        return extended(extension.c, tag);
+    }
+    let index = bits(s, extension.c, 5);
+    let d = mark(index.c, unlisted(index.v));
+    note_at(d, tag, index.v, 0)
+}

@@ -1,0 +1,250 @@
+// Latitude and longitude: a form, one to three numbers, and a side. They differ in their ranges and tags alone.
+ghost use Rattle.cursor.specs.Ranges.{Listed};
+ghost use Rattle.angles.specs.Angles.{Forms, Angles, MaybeAngles, Pairs, MaybePairs};
+use cursor::numbers::ranged;
+use cursor::place::Cursor;
+use cursor::place::bits;
+use cursor::place::presence;
+use cursor::place::stop;
+use cursor::ranges::HUNDREDTHS;
+use cursor::ranges::LATITUDE_DEGREES;
+use cursor::ranges::LATITUDE_THOUSANDTHS;
+use cursor::ranges::LONGITUDE_DEGREES;
+use cursor::ranges::LONGITUDE_THOUSANDTHS;
+use cursor::ranges::MINUTES;
+use cursor::ranges::Range;
+use cursor::ranges::SIDE;
+
+// Form 0: thousandths of a degree; 1: degrees and hundredths of a minute; 2: degrees, minutes and seconds.
+pub struct Form {
+    pub form: u64,
+    pub first: u64,
+    pub second: u64,
+    pub third: u64,
+}
+
+pub struct FormAt {
+    pub form: Form,
+    pub c: Cursor,
+}
+
+pub struct Angle {
+    pub form: Form,
+    pub side: u64,
+}
+
+pub struct AngleAt {
+    pub angle: Angle,
+    pub c: Cursor,
+}
+
+// has: 0 where the angle is absent
+pub struct MaybeAngle {
+    pub has: u64,
+    pub angle: Angle,
+}
+
+pub struct MaybeAngleAt {
+    pub maybe: MaybeAngle,
+    pub c: Cursor,
+}
+
+pub struct Pair {
+    pub latitude: MaybeAngle,
+    pub longitude: MaybeAngle,
+}
+
+pub struct PairAt {
+    pub pair: Pair,
+    pub c: Cursor,
+}
+
+pub struct MaybePair {
+    pub has: u64,
+    pub pair: Pair,
+}
+
+pub struct MaybePairAt {
+    pub maybe: MaybePair,
+    pub c: Cursor,
+}
+
+// The form and its numbers, by the ranges of the thousandths and of the degrees.
+fn read_form(s: &[u8], c: Cursor, thousandths: Range, degrees: Range) -> FormAt
+    requires { ⌜ Listed thousandths × Listed degrees ⌝ }
+    ensures { λ r. ⌜ Forms (thousandths .row) (degrees .row) (now (s .entry)) c r ⌝ }
+{
+    let index = bits(s, c, 2);
+    let f = index.v;
+    if f == 0 {
+        let a = ranged(s, index.c, thousandths);
+        let end = a.c;
+        let form = Form {
+            form: 0,
+            first: a.v,
+            second: 0,
+            third: 0,
+        };
+        return FormAt { form: form, c: end };
+    }
+    if f == 1 {
+        let a = ranged(s, index.c, degrees);
+        let b = ranged(s, a.c, HUNDREDTHS);
+        let end = b.c;
+        let form = Form {
+            form: 1,
+            first: a.v,
+            second: b.v,
+            third: 0,
+        };
+        return FormAt { form: form, c: end };
+    }
+    if f == 2 {
+        let a = ranged(s, index.c, degrees);
+        let b = ranged(s, a.c, MINUTES);
+        let d = ranged(s, b.c, MINUTES);
+        let end = d.c;
+        let form = Form {
+            form: 2,
+            first: a.v,
+            second: b.v,
+            third: d.v,
+        };
+        return FormAt { form: form, c: end };
+    }
+    let end = stop(index.c, 5, 1);
+    let form = Form {
+        form: 0,
+        first: 0,
+        second: 0,
+        third: 0,
+    };
+    FormAt { form: form, c: end }
+}
+
+fn read_angle(s: &[u8], c: Cursor, thousandths: Range, degrees: Range) -> AngleAt
+    requires { ⌜ Listed thousandths × Listed degrees ⌝ }
+    ensures { λ r. ⌜ Angles (thousandths .row) (degrees .row) (now (s .entry)) c r ⌝ }
+{
+    let form = read_form(s, c, thousandths, degrees);
+    let side = ranged(s, form.c, SIDE);
+    let f = form.form;
+    let end = side.c;
+    let angle = Angle {
+        form: f,
+        side: side.v,
+    };
+    AngleAt {
+        angle: angle,
+        c: end,
+    }
+}
+
+fn read_maybe_angle(
+    s: &[u8],
+    c: Cursor,
+    has: u64,
+    thousandths: Range,
+    degrees: Range,
+) -> MaybeAngleAt
+    requires { ⌜ Listed thousandths × Listed degrees ⌝ }
+    ensures { λ r. ⌜ MaybeAngles has (thousandths .row) (degrees .row) (now (s .entry)) c r ⌝ }
+{
+    if has == 0 {
+        let form = Form {
+            form: 0,
+            first: 0,
+            second: 0,
+            third: 0,
+        };
+        let angle = Angle {
+            form: form,
+            side: 0,
+        };
+        let none = MaybeAngle {
+            has: 0,
+            angle: angle,
+        };
+        return MaybeAngleAt { maybe: none, c: c };
+    }
+    let a = read_angle(s, c, thousandths, degrees);
+    let angle = a.angle;
+    let end = a.c;
+    let some = MaybeAngle {
+        has: 1,
+        angle: angle,
+    };
+    MaybeAngleAt {
+        maybe: some,
+        c: end,
+    }
+}
+
+// Latitude and longitude, each of which may be absent.
+pub fn read_latlon(s: &[u8], c: Cursor) -> PairAt
+    ensures { λ r. ⌜ Pairs (now (s .entry)) c r ⌝ }
+{
+    let flags = presence(s, c, 2);
+    let latitude = read_maybe_angle(
+        s,
+        flags.c,
+        flags.v / 2 % 2,
+        LATITUDE_THOUSANDTHS,
+        LATITUDE_DEGREES,
+    );
+    let longitude = read_maybe_angle(
+        s,
+        latitude.c,
+        flags.v % 2,
+        LONGITUDE_THOUSANDTHS,
+        LONGITUDE_DEGREES,
+    );
+    let a = latitude.maybe;
+    let b = longitude.maybe;
+    let end = longitude.c;
+    let pair = Pair {
+        latitude: a,
+        longitude: b,
+    };
+    PairAt { pair: pair, c: end }
+}
+
+fn no_angle() -> MaybeAngle {
+    let form = Form {
+        form: 0,
+        first: 0,
+        second: 0,
+        third: 0,
+    };
+    let angle = Angle {
+        form: form,
+        side: 0,
+    };
+    MaybeAngle {
+        has: 0,
+        angle: angle,
+    }
+}
+
+pub fn read_maybe_latlon(s: &[u8], c: Cursor, has: u64) -> MaybePairAt
+    ensures { λ r. ⌜ MaybePairs has (now (s .entry)) c r ⌝ }
+{
+    if has == 0 {
+        let a = no_angle();
+        let b = no_angle();
+        let pair = Pair {
+            latitude: a,
+            longitude: b,
+        };
+        let none = MaybePair { has: 0, pair: pair };
+        return MaybePairAt { maybe: none, c: c };
+    }
+    let p = read_latlon(s, c);
+    let pair = p.pair;
+    let end = p.c;
+    let some = MaybePair { has: 1, pair: pair };
+    MaybePairAt {
+        maybe: some,
+        c: end,
+    }
+}

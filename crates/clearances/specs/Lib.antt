@@ -1,0 +1,2 @@
+pub mod Clearance
+pub mod Attempts

@@ -1,0 +1,72 @@
+// Octets that are told by where they stand, and the transport address that is made of them.
+ghost use mathlib.Core.List.{List};
+ghost use Prim.Native.Nat.{ℕ, _<_, _^_};
+ghost use Rattle.atn.specs.Messages.{octetSpan, longTsap};
+ghost use Rattle.atn.specs.Tags.{ars, loc-sys-nsel-tsel};
+ghost use Rattle.cursor.specs.Place.{Takes};
+ghost use Rattle.cursor.specs.Formats.{Maybe};
+ghost use Rattle.cm_parts.specs.Does.{Does};
+ghost use Rattle.cm_addresses.specs.Addresses.{Octets as Spanned, shortTsap};
+use cm_parts::parts::Step;
+use cm_parts::tags;
+use cursor::lengths::pass;
+use cursor::place::presence;
+use cursor::ranges::SELECTOR_SIZE;
+use cursor::texts::size;
+use per::units::Octets;
+use records::emit;
+
+// So many octets, passed over; none are not told.
+fn octets(words: &mut [u64], at: Step, size: Octets, tag: u64) -> Step
+    requires { ⌜ (at .n < 2 ^ 20) × (size .0 < 512) ⌝ }
+    ensures { λ r. ⌜ ((s : List ℕ) → Does 1 (Spanned tag (size .0) s) at r (now (words .entry)) (now (words .exit))) ⌝ }
+{
+    let c = at.c;
+    let first = c.at;
+    let bits = size.bits();
+    let d = pass(c, bits);
+    if bits.0 == 0 {
+        return Step { c: d, n: at.n };
+    }
+    let n = emit(words, at.n, tag, 0, first as u64, bits.0 as u64);
+    Step { c: d, n: n }
+}
+
+fn maybe_ars(words: &mut [u64], at: Step, has: u64) -> Step
+    requires { ⌜ at .n < 2 ^ 20 ⌝ }
+    ensures { λ r. ⌜ ((s : List ℕ) → Does 1 (Maybe has (octetSpan ars 3 3) s) at r (now (words .entry)) (now (words .exit))) ⌝ }
+{
+    if has == 0 {
+        return at;
+    }
+    octets(words, at, Octets(3), tags::ARS)
+}
+
+fn selectors(words: &mut [u64], at: Step, s: &[u8]) -> Step
+    requires { ⌜ at .n < 2 ^ 20 ⌝ }
+    ensures { λ r. ⌜ Does 1 (Takes (octetSpan loc-sys-nsel-tsel 10 11) (now (s .entry))) at r (now (words .entry)) (now (words .exit)) ⌝ }
+{
+    let g = size(s, at.c, SELECTOR_SIZE);
+    let c = g.c;
+    let behind = Step { c: c, n: at.n };
+    octets(words, behind, Octets(g.v as usize), tags::LOC_SYS_NSEL_TSEL)
+}
+
+fn short_tsap(words: &mut [u64], at: Step, s: &[u8]) -> Step
+    requires { ⌜ at .n < 2 ^ 19 ⌝ }
+    ensures { λ r. ⌜ Does 2 (Takes shortTsap (now (s .entry))) at r (now (words .entry)) (now (words .exit)) ⌝ }
+{
+    let p = presence(s, at.c, 1);
+    let c = p.c;
+    let behind = Step { c: c, n: at.n };
+    let ars = maybe_ars(words, behind, p.v % 2);
+    selectors(words, ars, s)
+}
+
+pub fn long_tsap(words: &mut [u64], at: Step, s: &[u8]) -> Step
+    requires { ⌜ at .n < 2 ^ 18 ⌝ }
+    ensures { λ r. ⌜ Does 3 (Takes longTsap (now (s .entry))) at r (now (words .entry)) (now (words .exit)) ⌝ }
+{
+    let rdp = octets(words, at, Octets(5), tags::RDP);
+    short_tsap(words, rdp, s)
+}

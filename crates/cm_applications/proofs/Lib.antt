@@ -1,0 +1,2 @@
+pub mod TimesLaws
+pub mod ListLaws

@@ -1,0 +1,64 @@
+// Lists of applications, with their addresses or without.
+ghost use Prim.Native.Nat.{_<_, _^_};
+ghost use Rattle.cursor.specs.Place.{Takes};
+ghost use Rattle.cursor.specs.Formats.{Maybe};
+ghost use Rattle.cm_parts.specs.Does.{Does};
+ghost use Rattle.cm_applications.specs.Applications.{At, entryOf, listOf};
+use cm_parts::parts::Step;
+use cm_parts::parts::number;
+use cm_parts::parts::refuse;
+use cm_parts::tags;
+use cursor::ranges::AE_QUALIFIER;
+use cursor::ranges::AP_VERSION;
+use cursor::ranges::APPLICATIONS;
+use cursor::texts::size;
+use records::emit;
+
+// An entry, by its place in the list. There is no reader for its address.
+fn entry(words: &mut [u64], at: Step, s: &[u8], addressed: bool, tag: u64, place: u64) -> Step
+    requires { ⌜ at .n < 2 ^ 19 ⌝ }
+    ensures { λ r. ⌜ Does 3 (At (entryOf addressed tag) place (now (s .entry))) at r (now (words .entry)) (now (words .exit)) ⌝ }
+{
+    let c = at.c;
+    let n = emit(words, at.n, tag, 0, place, 0);
+    let behind = Step { c: c, n: n };
+    let qualifier = number(words, behind, s, AE_QUALIFIER, tags::AE_QUALIFIER);
+    let version = number(words, qualifier, s, AP_VERSION, tags::AP_VERSION);
+    if addressed {
+        return refuse(version, 6, 0);
+    }
+    version
+}
+
+pub fn entries(words: &mut [u64], at: Step, s: &[u8], addressed: bool, tag: u64) -> Step
+    requires { ⌜ at .n < 2 ^ 18 ⌝ }
+    ensures { λ r. ⌜ Does 1536 (Takes (listOf addressed tag) (now (s .entry))) at r (now (words .entry)) (now (words .exit)) ⌝ }
+{
+    let g = size(s, at.c, APPLICATIONS);
+    let count = g.v;
+    let c = g.c;
+    let mut z = Step { c: c, n: at.n };
+    let mut i: u64 = 0;
+    while i < count {
+        z = entry(words, z, s, addressed, tag, i + 1);
+        i += 1;
+    }
+    z
+}
+
+pub fn maybe_entries(
+    words: &mut [u64],
+    at: Step,
+    s: &[u8],
+    has: u64,
+    addressed: bool,
+    tag: u64,
+) -> Step
+    requires { ⌜ at .n < 2 ^ 18 ⌝ }
+    ensures { λ r. ⌜ Does 1536 (Maybe has (listOf addressed tag) (now (s .entry))) at r (now (words .entry)) (now (words .exit)) ⌝ }
+{
+    if has == 0 {
+        return at;
+    }
+    entries(words, at, s, addressed, tag)
+}

@@ -1,0 +1,61 @@
+-- What is answered from a verdict.
+use mathlib.Core.Path.{_≡_, refl}
+use mathlib.Core.Bool.{Bool, true, false}
+use mathlib.Core.List.{List}
+use Prim.Native.Nat.{ℕ, _≤_, _<_}
+use native.Mathlib.Omega.{arith}
+use lib.ListN.{length}
+use Rattle.atn.specs.Reading.{Rec}
+use Rattle.atn.specs.Entries.{Reply, accept, ranOut, badly, unsupplied, readFrame, pdus, settle}
+use Rattle.answers.specs.declared.Answer.{Answer}
+use Rattle.answers.specs.declared.Answer.the-variants.{Accepted, Refused}
+use Rattle.answers.specs.Says.{Says}
+use Rattle.cursor.specs.declared.place.Cursor.{Cursor}
+use Rattle.records.specs.Puts.{space}
+use Rattle.records.proofs.Passes.{settle-out, settle-bad, settle-lack, settle-full, settle-fits}
+use Rattle.runs.specs.declared.At.{At}
+use Rattle.runs.specs.Runs.{Runs}
+use Rattle.pdus.specs.Pdus.{pduAt}
+use Rattle.verdicts.specs.declared.Verdict.{Verdict}
+use Rattle.verdicts.specs.Verdicts.{verdictOf, Tells, Follows}
+use Rattle.cpdlc_frames.proofs.ReadingLaws.{begin, begin-inside, ran-tells}
+
+module _ {w : List ℕ} (cut : Bool) (v : Verdict) {need : ℕ} (needs : need ≡ space (v .count)) where
+  -- the records do not fit
+  pub says-full : length w < need → (R : List Rec) → v .count ≡ length R → Says (Refused 7 (v .reach) need) w (settle (accept cut (v .reach) (v .marks) R) w)
+  says-full l R e = record { is = settle-full refl refl e needs l }
+
+  -- they do, and were written
+  pub says-written : (d : ℕ) (down up s : List ℕ) {b : ℕ} {w′ : List ℕ} {x : At} → need ≤ length w → {c : Cursor} → c ≡ begin s → Runs b (pduAt d down up s) s c 0 w w′ x → (R : List Rec) → v .count ≡ length R → Tells R (readFrame (pdus d down up) s)
+      → Says (Accepted cut (v .reach) (v .marks) (v .count)) w′ (settle (accept cut (v .reach) (v .marks) R) w)
+  says-written d down up s l from runs R e t =
+      let run = rw from at runs in
+      record { is = settle-fits refl refl e needs l (rw (ran-tells d down up s (run .ran (begin-inside s)) t) at (run .told)) }
+
+module _ {v : Verdict} {w : List ℕ} (u : Reply) (h : v ≡ verdictOf u) where
+  pub says-refused : (v .why ≡ 0 → ⊥) → (v .why ≡ 7 → ⊥) → Says (Refused (v .why) (v .reach) 0) w (settle u w)
+  unfolding verdictOf
+  says-refused = go u h
+    where
+      go : (u : Reply) → v ≡ verdictOf u → (v .why ≡ 0 → ⊥) → (v .why ≡ 7 → ⊥) → Says (Refused (v .why) (v .reach) 0) w (settle u w)
+      go (accept false p m R) q n₀ n₇ = absurd (n₀ (rw q refl))
+      go (accept true p m R) q n₀ n₇ = absurd (n₇ (rw q refl))
+      go (ranOut p) q n₀ n₇ = rw q (record { is = settle-out refl refl })
+      go (badly p) q n₀ n₇ = rw q (record { is = settle-bad refl refl })
+      go (unsupplied p) q n₀ n₇ = rw q (record { is = settle-lack refl refl })
+
+pub says-whole : (w : List ℕ) {a : Answer} {v : Verdict} {w′ : List ℕ} {r : Reply} → v .why ≡ 0 → ((R : List Rec) → v .count ≡ length R → Tells R r → Says a w′ (settle (accept false (v .reach) (v .marks) R) w)) → (u : Reply) → v ≡ verdictOf u → Follows u r → Says a w′ (settle u w)
+unfolding verdictOf
+says-whole w z f (accept false p m R) h x = rw h at (f R (rw h refl) (x .follows (record { cut = false; reach = p; marks = m; is = refl })))
+says-whole w z f (accept true p m R) h x = absurd (let y : _≡_ {A = ℕ} 7 0 = rw h at z in omega arith)
+says-whole w z f (ranOut p) h x = absurd (let y : _≡_ {A = ℕ} 4 0 = rw h at z in omega arith)
+says-whole w z f (badly p) h x = absurd (let y : _≡_ {A = ℕ} 5 0 = rw h at z in omega arith)
+says-whole w z f (unsupplied p) h x = absurd (let y : _≡_ {A = ℕ} 6 0 = rw h at z in omega arith)
+
+pub says-cut : (w : List ℕ) {a : Answer} {v : Verdict} {w′ : List ℕ} {r : Reply} → v .why ≡ 7 → ((R : List Rec) → v .count ≡ length R → Tells R r → Says a w′ (settle (accept true (v .reach) (v .marks) R) w)) → (u : Reply) → v ≡ verdictOf u → Follows u r → Says a w′ (settle u w)
+unfolding verdictOf
+says-cut w z f (accept false p m R) h x = absurd (let y : _≡_ {A = ℕ} 0 7 = rw h at z in omega arith)
+says-cut w z f (accept true p m R) h x = rw h at (f R (rw h refl) (x .follows (record { cut = true; reach = p; marks = m; is = refl })))
+says-cut w z f (ranOut p) h x = absurd (let y : _≡_ {A = ℕ} 4 7 = rw h at z in omega arith)
+says-cut w z f (badly p) h x = absurd (let y : _≡_ {A = ℕ} 5 7 = rw h at z in omega arith)
+says-cut w z f (unsupplied p) h x = absurd (let y : _≡_ {A = ℕ} 6 7 = rw h at z in omega arith)

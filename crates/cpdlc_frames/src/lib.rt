@@ -1,0 +1,117 @@
+// A frame read without words, and then with them.
+ghost use mathlib.Core.Path.{_≡_};
+ghost use Prim.Native.Nat.{_*_, _≤_, _<_, _^_};
+ghost use lib.ListN.{length};
+ghost use Rattle.answers.specs.Says.{Says};
+ghost use mathlib.Core.List.{List};
+ghost use Rattle.atn.specs.Entries.{Reply, accept, pdus, readFrame, settle};
+ghost use Rattle.atn.specs.Reading.{Rec};
+ghost use Rattle.verdicts.specs.Verdicts.{verdictOf, Tried, Tells, Follows};
+use answers::Answer;
+use cursor::place::Cursor;
+use pdus::choices::read_pdu;
+use records::space::words_for;
+use verdicts::Verdict;
+
+// The window is the whole frame.
+fn start(frame: &[u8]) -> Cursor
+    requires { ⌜ length (now frame) ≤ 8192 ⌝ }
+    ensures { λ r. ⌜ r ≡ record { at = 0; end = length (now (frame .entry)) * 8; why = 0; marks = 0 } ⌝ }
+{
+    Cursor {
+        at: 0,
+        end: frame.len() * 8,
+        why: 0,
+        marks: 0,
+    }
+}
+
+// The reading on no words: it counts the records, and leaves the words as they are.
+pub fn try_frame(frame: &[u8], words: &mut [u64], direction: u64, down: &[u8], up: &[u8]) -> Verdict
+    requires { ⌜ (length (now frame) ≤ 8192) × (1 ≤ length (now down)) × (length (now down) ≤ 256) × (1 ≤ length (now up)) × (length (now up) ≤ 256) × (direction ≤ 1) ⌝ }
+    ensures { λ r. ⌜ Tried (readFrame (pdus direction (now (down .entry)) (now (up .entry))) (now (frame .entry))) r (now (words .entry)) (now (words .exit)) ⌝ }
+{
+    let x = read_pdu(frame, &mut words[..0], 0, start(frame), direction, down, up);
+    let count = x.n;
+    let c = x.c;
+    let why = c.why;
+    let reach = c.at;
+    let marks = c.marks;
+    if why == 0 {
+        return Verdict {
+            why: 0,
+            reach: reach,
+            marks: marks,
+            count: count,
+        };
+    }
+    if why == 7 {
+        return Verdict {
+            why: 7,
+            reach: reach,
+            marks: marks,
+            count: count,
+        };
+    }
+    Verdict {
+        why: why,
+        reach: reach,
+        marks: 0,
+        count: 0,
+    }
+}
+
+// The records of an accepted reading, where they fit.
+fn write_frame(
+    frame: &[u8],
+    words: &mut [u64],
+    direction: u64,
+    down: &[u8],
+    up: &[u8],
+    cut: bool,
+    v: Verdict,
+) -> Answer
+    requires { ⌜ (length (now frame) ≤ 8192) × (1 ≤ length (now down)) × (length (now down) ≤ 256) × (1 ≤ length (now up)) × (length (now up) ≤ 256) × (direction ≤ 1) × (v .count < 2 ^ 32) ⌝ }
+    ensures { λ r. ⌜ ((R : List Rec) → v .count ≡ length R → Tells R (readFrame (pdus direction (now (down .entry)) (now (up .entry))) (now (frame .entry))) → Says r (now (words .exit)) (settle (accept cut (v .reach) (v .marks) R) (now (words .entry)))) ⌝ }
+{
+    let need = words_for(v.count);
+    if words.len() < need {
+        return Answer::Refused {
+            number: 7,
+            reach: v.reach,
+            need: need,
+        };
+    }
+    read_pdu(frame, words, 0, start(frame), direction, down, up);
+    Answer::Accepted {
+        cut: cut,
+        reach: v.reach,
+        marks: v.marks,
+        count: v.count,
+    }
+}
+
+// The answer of a verdict: the records are those of the direction's reading.
+pub fn answer_frame(
+    frame: &[u8],
+    words: &mut [u64],
+    direction: u64,
+    down: &[u8],
+    up: &[u8],
+    v: Verdict,
+) -> Answer
+    requires { ⌜ (length (now frame) ≤ 8192) × (1 ≤ length (now down)) × (length (now down) ≤ 256) × (1 ≤ length (now up)) × (length (now up) ≤ 256) × (direction ≤ 1) × (v .count < 2 ^ 32) ⌝ }
+    ensures { λ r. ⌜ ((u : Reply) → v ≡ verdictOf u → Follows u (readFrame (pdus direction (now (down .entry)) (now (up .entry))) (now (frame .entry))) → Says r (now (words .exit)) (settle u (now (words .entry)))) ⌝ }
+{
+    if v.why == 0 {
+        return write_frame(frame, words, direction, down, up, false, v);
+    }
+    if v.why == 7 {
+        return write_frame(frame, words, direction, down, up, true, v);
+    }
+    Answer::Refused {
+        number: v.why,
+        reach: v.reach,
+        need: 0,
+    }
+}

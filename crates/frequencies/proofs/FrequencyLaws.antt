@@ -1,0 +1,56 @@
+-- A frequency from its index: a number of the rows, or what stands behind them.
+use mathlib.Core.Path.{_≡_, refl}
+use mathlib.Core.List.{List, [], _∷_}
+use Prim.Native.Nat.{ℕ, zero, suc, _+_, _≤_, _<_}
+use native.Mathlib.Omega.{arith}
+use Rattle.x691.specs.Encoding.{width, widthIn, count}
+use Rattle.x691.specs.Encoding as encoding
+use Rattle.atn.specs.Format.{Alts, none-left, _∥_}
+use Rattle.atn.specs.Reading.{rec, readChoice}
+use Rattle.atn.specs.Messages as message
+use Rattle.cursor.specs.declared.place.Cursor.{Cursor}
+use Rattle.cursor.specs.declared.place.Got.{Got}
+use Rattle.cursor.specs.declared.texts.TextAt.{TextAt}
+use Rattle.cursor.specs.Place.{Pulls, Takes}
+use Rattle.cursor.specs.Numbers.{lowest, highest, rowsThen, Ranged}
+use Rattle.cursor.specs.Texts.{Channel, channelRecs}
+use Rattle.cursor.proofs.ChoiceLaws.{takes-index, takes-row}
+use Rattle.frequencies.specs.declared.Frequency.{Frequency}
+use Rattle.frequencies.specs.Records.{frequencyRecs, numberOrChannel}
+use Rattle.frequencies.specs.Readers.{Frequencies}
+use Rattle.frequencies.proofs.Indices.{pulls-last}
+
+abbrev behind : Alts
+behind = message.digits 59 12 12 ∥ none-left
+
+-- a number below 3, a channel from 3 on
+pub number-recs : (k : ℕ) (s : List ℕ) (v : Frequency) (n : ℕ) → k < 3 → numberOrChannel k s v n ≡ rec 58 n (v .number) 0 ∷ []
+number-recs zero s v n h = refl
+number-recs (suc zero) s v n h = refl
+number-recs (suc (suc zero)) s v n h = refl
+number-recs (suc (suc (suc k))) s v n h = absurd (omega arith)
+
+pub channel-recs : (k : ℕ) (s : List ℕ) (v : Frequency) (n : ℕ) → 3 ≤ k → numberOrChannel k s v n ≡ channelRecs 59 n s (v .channel)
+channel-recs zero s v n h = absurd (omega arith)
+channel-recs (suc zero) s v n h = absurd (omega arith)
+channel-recs (suc (suc zero)) s v n h = absurd (omega arith)
+channel-recs (suc (suc (suc k))) s v n h = refl
+
+module _ {s : List ℕ} {c : Cursor} (g : Got) (p : Pulls s c 2 g) where
+  pub frequency-number : (r : Got) → g .v < 3 → Ranged (25 + g .v) s (g .c) r
+      → Frequencies s c (record { frequency = record { kind = g .v; number = r .v; channel = record { at = 0; len = 0 } }; c = r .c })
+  unfolding frequencyRecs lowest highest width widthIn encoding.highest count
+  frequency-number r l h =
+      let y : Takes message.frequency s c (r .c) (λ n. rec 57 n (g .v) 0 ∷ rec 58 n (r .v) 0 ∷ []) = takes-row 57 58 25 3 behind g p r l h in
+      record {
+        reads = record { took = λ x. rw (number-recs (g .v) s _ (x .0) l) (y .took x) };
+        held = record { few = omega arith; there = record { there = omega arith; fits = omega arith } };
+      }
+
+  pub frequency-channel : (r : TextAt) → 3 ≤ g .v → Channel s (g .c) r → Frequencies s c (record { frequency = record { kind = 3; number = 0; channel = r .text }; c = r .c })
+  unfolding readChoice frequencyRecs lowest highest width widthIn encoding.highest count
+  frequency-channel r l h =
+      record {
+        reads = takes-index 57 (rowsThen 58 25 3 behind) 3 _ (record { v = 3; c = g .c }) (pulls-last 2 3 g refl p l) refl (λ x u q. refl) (h .channel 59);
+        held = record { few = h .few; there = h .held };
+      }

@@ -1,0 +1,60 @@
+// What stands in inner strings: a message, or the data that a forward message carries. Each is read as a part of the frame, in a window of its own.
+ghost use Prim.Native.Nat.{_≤_, _<_, _^_};
+ghost use lib.ListN.{length};
+ghost use Rattle.inner_messages.specs.Parts.{laxData, innerAt};
+ghost use Rattle.runs.specs.Runs.{Runs};
+use cursor::place::Cursor;
+use inner_strings::Inner;
+use inner_strings::find_string;
+use message::data::read_data;
+use message::data::read_message;
+use runs::At;
+use runs::windows::close_window;
+
+// Data that may be given up: run on no words, and again on the words unless it failed. An unsupplied item is said all the same.
+pub fn try_data(s: &[u8], words: &mut [u64], n: usize, c: Cursor, table: &[u8]) -> At
+    requires { ⌜ (n < 2 ^ 22) × (1 ≤ length (now table)) × (length (now table) ≤ 256) ⌝ }
+    ensures { λ r. ⌜ Runs 236050 (laxData (now (table .entry)) (now (s .entry))) (now (s .entry)) c n (now (words .entry)) (now (words .exit)) r ⌝ }
+{
+    if c.why != 0 {
+        return At { n: n, c: c };
+    }
+    let dry = read_data(s, &mut words[..0], n, c, table);
+    let d = dry.c;
+    let why = d.why;
+    let at = d.at;
+    let end = d.end;
+    let marks = d.marks;
+    if why == 6 {
+        return At { n: n, c: d };
+    }
+    let given_up = Cursor {
+        at: at,
+        end: end,
+        why: 8,
+        marks: marks | 64,
+    };
+    match why {
+        4..=5 => At { n: n, c: given_up },
+        _ => read_data(s, words, n, c, table),
+    }
+}
+
+// A message in its inner string.
+pub fn read_inner(s: &[u8], words: &mut [u64], n: usize, c: Cursor, table: &[u8]) -> At
+    requires { ⌜ (length (now s) ≤ 8192) × (n < 2 ^ 22) × (1 ≤ length (now table)) × (length (now table) ≤ 256) ⌝ }
+    ensures { λ r. ⌜ Runs 236059 (innerAt (now (table .entry)) (now (s .entry))) (now (s .entry)) c n (now (words .entry)) (now (words .exit)) r ⌝ }
+{
+    if c.why != 0 {
+        return At { n: n, c: c };
+    }
+    match find_string(s, c) {
+        Inner::Lost(d) => At { n: n, c: d },
+        Inner::Found(from, to, window, d) => {
+            let x = read_message(&s[from..to], words, n, window, table);
+            let m = x.n;
+            let e = close_window(d, x.c);
+            At { n: m, c: e }
+        }
+    }
+}

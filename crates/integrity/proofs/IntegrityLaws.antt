@@ -1,0 +1,54 @@
+-- The integrity check from its length and the bits passed over.
+use mathlib.Core.Path.{_≡_, refl, sym, ap, _∙_}
+use mathlib.Core.Bool.{true, false}
+use mathlib.Core.List.{List, [], _∷_}
+use Prim.Native.Nat.{ℕ, zero, suc, _+_, _*_, _≤_}
+use native.Mathlib.Omega.{arith}
+use Rattle.x691.specs.Bits.{bitOf}
+use Rattle.atn.specs.Format.{anySpan}
+use Rattle.atn.specs.Reading.{Rec, rec, Ans, or, mark, spanned, read}
+use Rattle.cursor.specs.declared.place.Cursor.{Cursor}
+use Rattle.cursor.specs.declared.lengths.Measured.{Measured}
+use Rattle.cursor.specs.Place.{put, Inside, Led, Takes}
+use Rattle.cursor.specs.Lengths.{Measures, Passes}
+use Rattle.cursor.proofs.LengthLaws.{takes-any-span}
+use Rattle.records.specs.Told.{Told}
+use Rattle.records.proofs.Telling.{told-none, told-within}
+use Rattle.runs.specs.declared.At.{At}
+use Rattle.integrity.specs.Parts.{integrity}
+use Rattle.runs.specs.Runs.{Runs}
+use Rattle.runs.proofs.FrameLaws.{soft-went, soft-out, soft-bad}
+use Rattle.runs.proofs.RunLaws.{runs-stayed, runs-within}
+
+module _ {s : List ℕ} {c d : Cursor} {l : Measured} (measures : Measures s c l) (passes : Passes (l .c) (l .count) d) where
+  abbrev reading : ℕ → ℕ → Ans
+  reading e p = read (anySpan 18 1) (0, 0) (bitOf s) e p
+
+  led : Inside s c → Led reading c d (spanned 18 0 (l .c .at) (l .count))
+  led i =
+      let z : l .count * 1 ≡ l .count = omega arith in
+      let t : Takes (anySpan 18 1) s c d (λ n. spanned 18 n (l .c .at) (l .count * 1)) = takes-any-span 18 1 measures (rw z passes) in
+      rw z at (t .took (0, 0) .led i)
+
+  pub integrity-lost : {n : ℕ} {w : List ℕ} → (c .why ≡ 0 → ⊥) → Runs 1 (integrity s) s c n w w (record { n = n; c = c })
+  integrity-lost h = runs-within 1 (integrity s) (omega arith) (runs-stayed (integrity s) h)
+
+  pub integrity-cut : {n : ℕ} {w : List ℕ} → c .why ≡ 0 → d .why ≡ 4 → Runs 1 (integrity s) s c n w w (record { n = n; c = put d (d .at) 7 (d .marks) })
+  unfolding integrity read
+  integrity-cut h z = record { recs = []; ran = λ i. soft-out 7 reading (led i) h z; told = told-within 1 (omega arith) told-none }
+
+  pub integrity-over : {n : ℕ} {w : List ℕ} → c .why ≡ 0 → d .why ≡ 5 → Runs 1 (integrity s) s c n w w (record { n = n; c = put d (d .at) 0 (or (d .marks) 64) })
+  unfolding integrity read mark
+  integrity-over h z = record { recs = []; ran = λ i. soft-bad 7 reading (led i) h z; told = told-within 1 (omega arith) told-none }
+
+  pub integrity-none : {n : ℕ} {w : List ℕ} → c .why ≡ 0 → (d .why ≡ 4 → ⊥) → (d .why ≡ 5 → ⊥) → l .count ≡ 0 → Runs 1 (integrity s) s c n w w (record { n = n; c = d })
+  unfolding integrity read spanned
+  integrity-none h n₄ n₅ z = record { recs = []; ran = λ i. soft-went 7 reading (rw z at (led i)) h n₄ n₅; told = told-within 1 (omega arith) told-none }
+
+  pub integrity-some : {n m : ℕ} {w w′ : List ℕ} → c .why ≡ 0 → (d .why ≡ 4 → ⊥) → (d .why ≡ 5 → ⊥) → (l .count ≡ 0 → ⊥) → Told 1 w w′ n m (rec 18 0 (l .c .at) (l .count) ∷ []) → Runs 1 (integrity s) s c n w w′ (record { n = m; c = d })
+  unfolding integrity read spanned
+  integrity-some {n} {m} {w} {w′} h n₄ n₅ z t = record { recs = spanned 18 0 (l .c .at) (l .count); ran = λ i. soft-went 7 reading (led i) h n₄ n₅; told = go (l .count) z t }
+    where
+      go : (k : ℕ) → (k ≡ 0 → ⊥) → Told 1 w w′ n m (rec 18 0 (l .c .at) k ∷ []) → Told 1 w w′ n m (spanned 18 0 (l .c .at) k)
+      go zero y u = absurd (y refl)
+      go (suc k) y u = u

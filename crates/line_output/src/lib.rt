@@ -1,0 +1,2 @@
+// What programs share that answer lines with lines: gathered output.
+pub mod output; // output.rt: standard output, gathered

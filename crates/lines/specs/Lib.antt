@@ -1,4 +1,0 @@
-pub mod Hex
-pub mod Decimal
-pub mod Input
-pub mod Flow

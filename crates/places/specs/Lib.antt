@@ -1,3 +1,0 @@
-pub mod Angles
-pub mod Names
-pub mod Positions

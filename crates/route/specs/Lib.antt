@@ -1,4 +1,0 @@
-pub mod Parts
-pub mod Legs
-pub mod Clearance
-pub mod Constrained

@@ -1,9 +1,0 @@
-use borrow.Author.Needs.{needs}
-use Rattle.small.proofs.names.read_clearance_type.Statement.{statement}
-use Rattle.small.proofs.names.read_clearance_type.Tie as tie
-
-returns : tie.Need-returns
-returns c = c .read-name .ensures
-
-pub read-clearance-type-spec : {M : Type 1} → statement M
-read-clearance-type-spec = tie.close (tie.spec (λ c κs. search needs) returns)

@@ -1,9 +1,0 @@
-use borrow.Author.Needs.{needs}
-use Rattle.small.proofs.names.read_facility_function.Statement.{statement}
-use Rattle.small.proofs.names.read_facility_function.Tie as tie
-
-returns : tie.Need-returns
-returns c = c .read-name .ensures
-
-pub read-facility-function-spec : {M : Type 1} → statement M
-read-facility-function-spec = tie.close (tie.spec (λ c κs. search needs) returns)
