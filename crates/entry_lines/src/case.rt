@@ -4,13 +4,13 @@ ghost use Rattle.entry_lines.specs.Cases.{Takes};
 use super::fields::field;
 use super::fields::octets;
 use super::fields::part;
-use super::names::Entry;
-use super::names::has_direction;
-use super::names::is_there;
-use super::names::named;
 use check::same;
 use decimal::Numeral;
 use decimal::number;
+use entry_calls::names::Entry;
+use entry_calls::names::has_direction;
+use entry_calls::names::is_there;
+use entry_calls::names::named;
 
 // What the line says, or that it is no case; how many octets the tables and the frame have, and how many words are lent.
 pub struct Case {

@@ -2,18 +2,16 @@
 ghost use Prim.Native.Nat.{_≤_};
 ghost use lib.ListN.{length};
 ghost use Rattle.line_flow.specs.Flow.{Runs};
+use entry_calls::names::Entry;
 use line_flow::Flow;
 use line_input::input::next;
 use line_output::output::Output;
 use line_output::output::put;
-use names::Entry;
 
-mod names; // names.rt: the entries by name
 mod fields; // fields.rt: the parts of a line
 mod case; // case.rt: a case
 mod pattern; // pattern.rt: what the lent words hold before a call
 mod said; // said.rt: the answer's line
-mod entries; // entries.rt: the call
 
 fn main() {
     let mut taken = io::large_buffer();
@@ -133,6 +131,6 @@ fn heard(
     ensures { λ r. ⌜ r .len ≤ length (now (gathered .entry)) ⌝ }
 {
     pattern::fill(words);
-    let a = entries::call(entry, direction, down, up, frame, words);
+    let a = entry_calls::entries::call(entry, direction, down, up, frame, words);
     said::answer(gathered, output, a, words)
 }

@@ -30,10 +30,11 @@ use Rattle.runs.proofs.FrameLaws.{soft-went, soft-out, soft-bad}
 use Rattle.runs.proofs.RunLaws.{runs-within}
 use Rattle.runs.proofs.AttemptLaws.{lax-ends}
 use Rattle.message.specs.Data.{dataAt}
-use Rattle.forward.specs.declared.HeaderAt.{HeaderAt}
+use Rattle.forward_headers.specs.declared.HeaderAt.{HeaderAt}
 use Rattle.inner_messages.specs.Parts.{laxData}
 use Rattle.inner_strings.specs.Strings.{Lacks, Has}
-use Rattle.forward.specs.Forward.{header, headerRecs, Headers, Forgives, carriedTable, forwardAt}
+use Rattle.forward_headers.specs.Headers.{header, headerRecs, Headers}
+use Rattle.forward.specs.Forward.{Forgives, carriedTable, forwardAt}
 use Rattle.inner_strings.proofs.StringLaws.{bytes, window-goes, window-inside, tells-lost, tells-read}
 
 ---------------------------------------------------------------- the table of the carried data

@@ -1,2 +1,2 @@
-pub mod HeaderLaws
+pub mod ForgiveLaws
 pub mod ForwardLaws

@@ -1,72 +1,19 @@
 // The forward message: a header, and the data of a message of either direction in an inner string. The header is read as a value, so that nothing of it is told where the body ends early.
-ghost use mathlib.Core.Path.{_≡_};
 ghost use Prim.Native.Nat.{_≤_, _<_, _^_};
 ghost use lib.ListN.{length};
-ghost use Rattle.cursor.specs.Texts.{InFrame};
 ghost use Rattle.inner_messages.specs.Parts.{laxData};
-ghost use Rattle.forward.specs.Forward.{Headers, headerRecs, Forgives, carriedTable, forwardAt};
-ghost use Rattle.records.specs.Told.{Told};
+ghost use Rattle.forward.specs.Forward.{Forgives, carriedTable, forwardAt};
 ghost use Rattle.runs.specs.Runs.{Runs};
-use cursor::lengths::pass;
 use cursor::place::Cursor;
 use cursor::place::bits;
-use cursor::ranges::FLIGHT_SIZE;
-use cursor::texts::Text;
-use cursor::texts::ia5;
-use date_times::DateTime;
-use date_times::read_date_time;
-use date_times::tell_date_time;
+use forward_headers::read_header;
+use forward_headers::tell_header;
 use inner_messages::try_data;
 use inner_strings::Inner;
 use inner_strings::find_string;
-use per::units::Bits;
 use records::emit;
 use runs::At;
 use runs::windows::close_window;
-use tell::tell_text;
-
-// The time, the aircraft's identifier, and the first of the 24 bits of its address.
-pub struct Header {
-    pub time: DateTime,
-    pub name: Text,
-    pub address: usize,
-}
-
-pub struct HeaderAt {
-    pub header: Header,
-    pub c: Cursor,
-}
-
-fn read_header(s: &[u8], c: Cursor) -> HeaderAt
-    ensures { λ r. ⌜ Headers (now (s .entry)) c r ⌝ }
-{
-    let t = read_date_time(s, c);
-    let time = t.time;
-    let id = ia5(s, t.c, FLIGHT_SIZE);
-    let name = id.text;
-    let d = id.c;
-    let end = pass(d, Bits(24));
-    let header = Header {
-        time: time,
-        name: name,
-        address: d.at,
-    };
-    HeaderAt {
-        header: header,
-        c: end,
-    }
-}
-
-fn tell_header(words: &mut [u64], n: usize, s: &[u8], x: Header) -> usize
-    requires { ⌜ (n < 2 ^ 30) × (x .name .len < 512) × InFrame 7 (now s) (x .name) ⌝ }
-    ensures { λ m. ⌜ Told 71 (now (words .entry)) (now (words .exit)) n m (headerRecs (now (s .entry)) x 0) ⌝ }
-{
-    let time = x.time;
-    let name = x.name;
-    let a = tell_date_time(words, n, time);
-    let b = tell_text(words, a, 19, 0, s, name);
-    emit(words, b, 20, 0, x.address as u64, 24)
-}
 
 // What is left of a body that failed: cut where the frame ended, mark 7 where it is badly formed.
 fn forgive(c: Cursor) -> Cursor

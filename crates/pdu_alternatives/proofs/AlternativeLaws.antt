@@ -1,48 +1,31 @@
--- The parts of the message choices, and their alternatives by the index.
+-- The message choices by the index: the start, and each alternative.
 use mathlib.Core.Path.{_≡_, refl, sym, ap, _∙_}
-use mathlib.Core.List.{List, [], _∷_, _++_}
+use mathlib.Core.List.{List, [], _++_}
 use Prim.Native.Nat.{ℕ, zero, suc, _+_, _%_, _≤_, _<_}
 use native.Mathlib.Nat.{add-zero}
 use native.Mathlib.Omega.{arith}
 use Rattle.x691.specs.Bits.{bitOf}
 use Rattle.x691.specs.Encoding.{count}
-use Rattle.atn.specs.Format.{Alts, bad, num, small, end, _⨾_, _⨾?_, none-left, _∥_, alternativesOf}
+use Rattle.atn.specs.Format.{Alts, bad, num, end, _⨾_, _⨾?_, none-left, _∥_, alternativesOf}
 use Rattle.atn.specs.Messages.{protectedMessage}
-use Rattle.atn.specs.Reading.{rec, stop, mark, flags, read, readChoice}
+use Rattle.atn.specs.Reading.{stop, mark, flags, readChoice}
 use Rattle.atn.specs.Tags as tag
 use Rattle.atn.proofs.Tame.{tame}
 use Rattle.cursor.specs.declared.place.Cursor.{Cursor}
 use Rattle.cursor.specs.declared.place.Got.{Got}
-use Rattle.cursor.specs.Lengths.{Smalls}
 use Rattle.cursor.specs.Numbers.{lowest, highest}
-use Rattle.cursor.specs.Place.{marked, stopped, Opens}
+use Rattle.cursor.specs.Place.{stopped, Opens}
 use Rattle.cursor.proofs.Laws.{reads-same, reads-stop}
-use Rattle.cursor.proofs.LengthLaws.{takes-small}
 use Rattle.cursor.proofs.FormatLaws.{allRead, opened-inside, last-bit}
-use Rattle.records.specs.Told.{Told}
 use Rattle.records.proofs.Telling.{told-then}
 use Rattle.runs.specs.declared.At.{At}
 use Rattle.runs.specs.Runs.{Runs}
-use Rattle.runs.proofs.FrameLaws.{runs-noted}
-use Rattle.runs.proofs.RunLaws.{ran-inside, ran-last, ran-may, ran-opened, runs-told, runs-untold, runs-silent, runs-within}
-use Rattle.enumerations.specs.declared.NameAt.{NameAt}
-use Rattle.enumerations.specs.Readers.{Reasons}
-use Rattle.enumerations.specs.Records.{nameRecs}
+use Rattle.runs.proofs.RunLaws.{ran-inside, ran-last, ran-may, ran-opened, runs-silent, runs-within}
 use Rattle.message_fields.specs.Fields.{numberField, maybeNumberField}
 use Rattle.protected.specs.Parts.{protected}
 use Rattle.forward.specs.Forward.{forwardAt}
-use Rattle.pdu_alternatives.specs.Alternatives.{reasonAt, startAt, extensionAt, alternatives, alternativeAt}
-
----------------------------------------------------------------- the parts
-
-module _ (row t : ℕ) {s : List ℕ} {c : Cursor} {g : NameAt} {n : ℕ} {w : List ℕ} (h : Reasons row s c g) where
-  pub reason-told : {m : ℕ} {w′ : List ℕ} → g .c .why ≡ 0 → Told 1 w w′ n m (nameRecs t (g .name) 0) → Runs 1 (reasonAt row t s) s c n w w′ (record { n = m; c = g .c })
-  unfolding reasonAt
-  reason-told z x = runs-told (reasonAt row t s) (h .reads t .took (0, 0)) z x
-
-  pub reason-untold : (g .c .why ≡ 0 → ⊥) → Runs 1 (reasonAt row t s) s c n w w (record { n = n; c = g .c })
-  unfolding reasonAt
-  reason-untold z = runs-within 1 (reasonAt row t s) (omega arith) (runs-untold (reasonAt row t s) (h .reads t .took (0, 0)) z)
+use Rattle.pdu_parts.specs.Parts.{reasonAt}
+use Rattle.pdu_alternatives.specs.Alternatives.{startAt, alternatives, alternativeAt}
 
 module _ (down : List ℕ) {s : List ℕ} {c : Cursor} {g : Got} {n : ℕ} {w w₁ w₂ : List ℕ} {r t : At} (opens : Opens s c 1 g) where
   pub start-read : {b : ℕ} → Runs 1 (maybeNumberField (g .v % 2) 0 7 s) s (g .c) n w w₁ r → Runs b (protected down s) s (r .c) (r .n) w₁ w₂ t → Runs (1 + b) (startAt down s) s c n w w₂ t
@@ -59,18 +42,6 @@ module _ (down : List ℕ) {s : List ℕ} {c : Cursor} {g : Got} {n : ℕ} {w w�
             (ran-may (0, 0) s (num tag.mode 0 1) (protectedMessage down ⨾ end) (c .at) (g .v % 2) refl bit run (ran-last (0, 0) s (protectedMessage down) (suc (c .at)) (y .ran i₁)));
         told = told-then (x .told) (y .told);
       }
-
--- the index of an alternative behind the extension bit
-module _ {s : List ℕ} {c d : Cursor} {g : Got} {n m : ℕ} {w w₁ : List ℕ} (goes : c .why ≡ 0) (t : Told 1 w w₁ n m (rec 2 0 0 1 ∷ [])) (q : d ≡ marked c 2) (h : Smalls s d g) where
-  pub extension-untold : (g .c .why ≡ 0 → ⊥) → Runs 2 (extensionAt s) s c n w w₁ (record { n = m; c = g .c })
-  unfolding extensionAt mark
-  extension-untold z =
-      runs-within 2 (extensionAt s) (omega arith)
-      (runs-noted (0, 0) tag.pdu 0 1 (small 2 tag.extension-index) goes t (runs-untold (λ u p. read (small 2 tag.extension-index) (0, 0) (bitOf s) u p) (takes-small 2 tag.extension-index q h .took (0, 0)) z))
-
-  pub extension-told : {k : ℕ} {w₂ : List ℕ} → g .c .why ≡ 0 → Told 1 w₁ w₂ m k (rec 3 0 (g .v) 0 ∷ []) → Runs 2 (extensionAt s) s c n w w₂ (record { n = k; c = g .c })
-  unfolding extensionAt mark
-  extension-told z u = runs-noted (0, 0) tag.pdu 0 1 (small 2 tag.extension-index) goes t (runs-told (λ u p. read (small 2 tag.extension-index) (0, 0) (bitOf s) u p) (takes-small 2 tag.extension-index q h .took (0, 0)) z u)
 
 ---------------------------------------------------------------- the alternatives
 

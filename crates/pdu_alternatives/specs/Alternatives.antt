@@ -3,19 +3,12 @@ use mathlib.Core.List.{List}
 use Prim.Native.Nat.{ℕ, zero, suc}
 use Rattle.x691.specs.Bits.{bitOf}
 use Rattle.atn.specs.Format.{Alts, num, seq, end, _⨾_, _⨾?_, none-left, _∥_}
-use Rattle.atn.specs.Messages.{extReason, protectedMessage, forward, extensionAlternative}
+use Rattle.atn.specs.Messages.{extReason, protectedMessage, forward}
 use Rattle.atn.specs.Reading.{Ans, read, readChoice}
 use Rattle.atn.specs.Tags as tag
-use Rattle.cursor.specs.Numbers.{highest}
-
-unfoldable pub reasonAt : ℕ → ℕ → List ℕ → ℕ → ℕ → Ans
-reasonAt row t s e p = read (extReason t (highest row)) (0, 0) (bitOf s) e p
 
 unfoldable pub startAt : List ℕ → List ℕ → ℕ → ℕ → Ans
 startAt down s e p = read (seq (num tag.mode 0 1 ⨾? protectedMessage down ⨾ end)) (0, 0) (bitOf s) e p
-
-unfoldable pub extensionAt : List ℕ → ℕ → ℕ → Ans
-extensionAt s e p = read extensionAlternative (0, 0) (bitOf s) e p
 
 -- the alternatives of the downlink, and those of the uplink
 abbrev pub alternatives : ℕ → List ℕ → List ℕ → Alts

@@ -19,7 +19,8 @@ use Rattle.runs.specs.declared.At.{At}
 use Rattle.runs.specs.Runs.{Runs}
 use Rattle.runs.proofs.FrameLaws.{runs-noted, runs-root, runs-extended, runs-no-index, runs-index}
 use Rattle.runs.proofs.RunLaws.{runs-same}
-use Rattle.pdu_alternatives.specs.Alternatives.{extensionAt, alternatives, alternativeAt}
+use Rattle.pdu_parts.specs.Parts.{extensionAt}
+use Rattle.pdu_alternatives.specs.Alternatives.{alternatives, alternativeAt}
 use Rattle.pdus.specs.Pdus.{indexBits, pduAt}
 
 ---------------------------------------------------------------- the bits of the index

@@ -8,7 +8,7 @@ use cursor::place::Cursor;
 use cursor::place::bits;
 use cursor::place::mark;
 use pdu_alternatives::alternative;
-use pdu_alternatives::read_extension;
+use pdu_parts::read_extension;
 use records::emit;
 use runs::At;
 

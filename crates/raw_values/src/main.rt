@@ -5,14 +5,14 @@
 mod frame; // frame.rt: the frame of a raw value
 mod reading; // reading.rt: how a frame reads
 mod sweep; // sweep.rt: all raw values of a field
-mod quantities; // quantities.rt: speeds, levels, degrees, frequencies
+mod kinds; // kinds.rt: speeds, levels, degrees, frequencies
 mod names; // names.rt: enumerations
 mod digits; // digits.rt: codes, channels, runways
 mod texts; // texts.rt: kinds and sizes of names and procedures
 mod coordinates; // coordinates.rt: latitude and longitude, wherever they stand
 
 fn main() {
-    quantities::all();
+    kinds::all();
     names::all();
     digits::all();
     texts::all();

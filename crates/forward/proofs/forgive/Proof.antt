@@ -1,5 +1,5 @@
 use Rattle.atn.specs.Reading.{or}
-use Rattle.forward.proofs.HeaderLaws.{forgives-cut, forgives-over, forgives-kept}
+use Rattle.forward.proofs.ForgiveLaws.{forgives-cut, forgives-over, forgives-kept}
 use Rattle.forward.proofs.forgive.Statement.{statement}
 use Rattle.forward.proofs.forgive.Tie as tie
 

@@ -1,6 +1,6 @@
 // The entries by name.
 ghost use mathlib.Core.Path.{_≡_};
-ghost use Rattle.entry_lines.specs.Calls.{isEntry, isDirected};
+ghost use Rattle.entry_calls.specs.Calls.{isEntry, isDirected};
 use check::same;
 
 pub enum Entry {

@@ -1,6 +1,6 @@
 // The call.
 ghost use Rattle.answers.specs.Says.{Says};
-ghost use Rattle.entry_lines.specs.Calls.{outcome};
+ghost use Rattle.entry_calls.specs.Calls.{outcome};
 use super::names::Entry;
 use acse::parse_acse_apdu;
 use answers::Answer;

@@ -1,8 +1,8 @@
 use borrow.Author.Needs.{needs}
 use Rattle.records.proofs.Telling.{told-length}
-use Rattle.pdu_alternatives.proofs.AlternativeLaws.{reason-told, reason-untold}
-use Rattle.pdu_alternatives.proofs.reason_part.Statement.{statement}
-use Rattle.pdu_alternatives.proofs.reason_part.Tie as tie
+use Rattle.pdu_parts.proofs.PartLaws.{reason-told, reason-untold}
+use Rattle.pdu_parts.proofs.reason_part.Statement.{statement}
+use Rattle.pdu_parts.proofs.reason_part.Tie as tie
 
 read-reason-requires : tie.Need-read-reason-requires
 read-reason-requires c κs = (c .before .before .pre .0, c .before .before .pre .1)

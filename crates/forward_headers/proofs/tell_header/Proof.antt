@@ -1,8 +1,8 @@
 use native.Mathlib.Omega.{arith}
 use borrow.Author.Needs.{needs}
 use Rattle.records.proofs.Telling.{told-length, told-then}
-use Rattle.forward.proofs.tell_header.Statement.{statement}
-use Rattle.forward.proofs.tell_header.Tie as tie
+use Rattle.forward_headers.proofs.tell_header.Statement.{statement}
+use Rattle.forward_headers.proofs.tell_header.Tie as tie
 
 tell-text-requires : tie.Need-tell-text-requires
 tell-text-requires c κs = (omega (arith, c .before .before .before .before .before .before .before .before .before .pre .0, c .before .before .before .tell-date-time .ensures .few), c .before .before .before .before .before .before .before .before .before .pre .1, c .before .before .before .before .before .before .before .before .before .pre .2)

@@ -2,9 +2,9 @@ use native.Mathlib.Omega.{arith}
 use borrow.Author.Needs.{needs}
 use Rattle.records.proofs.Telling.{told-length, told-then}
 use Rattle.runs.proofs.RunLaws.{runs-stayed, runs-within}
-use Rattle.pdu_alternatives.proofs.AlternativeLaws.{extension-untold, extension-told}
-use Rattle.pdu_alternatives.proofs.read_extension.Statement.{statement}
-use Rattle.pdu_alternatives.proofs.read_extension.Tie as tie
+use Rattle.pdu_parts.proofs.PartLaws.{extension-untold, extension-told}
+use Rattle.pdu_parts.proofs.read_extension.Statement.{statement}
+use Rattle.pdu_parts.proofs.read_extension.Tie as tie
 
 returns : tie.Need-returns
 returns c = runs-within 2 _ (omega arith) (runs-stayed _ (c .if1 .taken))

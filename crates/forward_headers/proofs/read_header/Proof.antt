@@ -1,7 +1,7 @@
 use borrow.Author.Needs.{needs}
-use Rattle.forward.proofs.HeaderLaws.{header-read}
-use Rattle.forward.proofs.read_header.Statement.{statement}
-use Rattle.forward.proofs.read_header.Tie as tie
+use Rattle.forward_headers.proofs.HeaderLaws.{header-read}
+use Rattle.forward_headers.proofs.read_header.Statement.{statement}
+use Rattle.forward_headers.proofs.read_header.Tie as tie
 
 returns : tie.Need-returns
 returns c = header-read (c .before .before .before .before .before .read-date-time .ensures) (c .before .before .before .ia5 .ensures) (c .pass .ensures)

@@ -1,27 +1,25 @@
 -- The header of a forward message from its parts.
 use mathlib.Core.Path.{_≡_, refl, sym, ap, _∙_}
 use mathlib.Core.List.{List, [], _∷_}
-use Prim.Native.Nat.{ℕ, _+_, _-_, _*_, _≤_}
+use Prim.Native.Nat.{ℕ, _+_, _*_}
 use native.Mathlib.Omega.{arith}
 use Rattle.x691.specs.Bits.{bitOf, bitsOf, Spells}
 use Rattle.x691.specs.Encoding.{width, widthIn, sizeBits}
 use Rattle.atn.specs.Format.{span}
-use Rattle.atn.specs.Reading.{Rec, rec, Ctx, Ans, ok, pull, spanned, flags, read}
+use Rattle.atn.specs.Reading.{rec, Ctx, Ans, ok, pull, spanned, flags, read}
 use Rattle.atn.proofs.Steps.{sized-go}
 use Rattle.cursor.specs.declared.place.Cursor.{Cursor}
 use Rattle.cursor.specs.declared.texts.TextAt.{TextAt}
 use Rattle.cursor.specs.Lengths.{Passes}
 use Rattle.cursor.specs.Numbers.{lowest, highest}
-use Rattle.cursor.specs.Place.{put, Inside, Takes}
+use Rattle.cursor.specs.Place.{Inside, Takes}
 use Rattle.cursor.specs.Texts.{Texts}
 use Rattle.cursor.proofs.Laws.{reads-same}
 use Rattle.cursor.proofs.LengthLaws.{passes-ok}
 use Rattle.cursor.proofs.FormatLaws.{allRead, takes-plain, fields-must, fields-last}
 use Rattle.date_times.specs.declared.DateTimeAt.{DateTimeAt}
 use Rattle.date_times.specs.Times.{DateTimes}
-use Rattle.atn.specs.Reading.{or}
-use Rattle.forward.specs.declared.HeaderAt.{HeaderAt}
-use Rattle.forward.specs.Forward.{Headers, Forgives}
+use Rattle.forward_headers.specs.Headers.{Headers}
 
 -- the 24 bits of the address
 module _ {s : List ℕ} {c d : Cursor} (passes : Passes c 24 d) where
@@ -46,14 +44,3 @@ pub header-read : {s : List ℕ} {c d : Cursor} {t : DateTimeAt} {x : TextAt} �
     → Headers s c (record { header = record { time = t .time; name = x .text; address = x .c .at }; c = d })
 unfolding lowest highest flags allRead
 header-read h g p = record { takes = takes-plain refl refl (fields-must (h .takes) (fields-must (g .text 19) (fields-last (address p)))); few = g .few; held = g .held }
-
----------------------------------------------------------------- what is left of a body that failed
-
-pub forgives-cut : {c : Cursor} → c .why ≡ 4 → Forgives c (put c (c .at) 7 (c .marks))
-forgives-cut z = record { cut = λ _. refl; over = λ y. absurd (omega arith); kept = λ n _. absurd (n z) }
-
-pub forgives-over : {c : Cursor} → c .why ≡ 5 → Forgives c (put c (c .at) 0 (or (c .marks) 64))
-forgives-over z = record { cut = λ y. absurd (omega arith); over = λ _. refl; kept = λ _ n. absurd (n z) }
-
-pub forgives-kept : {c : Cursor} → (c .why ≡ 4 → ⊥) → (c .why ≡ 5 → ⊥) → Forgives c c
-forgives-kept n₄ n₅ = record { cut = λ z. absurd (n₄ z); over = λ z. absurd (n₅ z); kept = λ _ _. refl }

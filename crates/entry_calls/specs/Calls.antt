@@ -3,8 +3,8 @@ use mathlib.Core.Bool.{Bool, true, false}
 use mathlib.Core.List.{List}
 use Prim.Native.Nat.{ℕ}
 use Rattle.atn.specs.Entries.{Outcome, refused, parse-pdus, parse-apdu, parse-cm-ground, parse-cm-logon, parse-acse-apdu}
-use Rattle.entry_lines.specs.declared.names.Entry.{Entry}
-use Rattle.entry_lines.specs.declared.names.Entry.the-variants.{Apdu, Pdus, CmGround, CmLogon, Acse, Unknown}
+use Rattle.entry_calls.specs.declared.names.Entry.{Entry}
+use Rattle.entry_calls.specs.declared.names.Entry.the-variants.{Apdu, Pdus, CmGround, CmLogon, Acse, Unknown}
 
 -- entry, direction, tables, frame, words; what is no entry is not called
 abbrev pub outcome : Entry → ℕ → List ℕ → List ℕ → List ℕ → List ℕ → Outcome
