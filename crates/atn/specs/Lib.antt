@@ -5,3 +5,4 @@ pub mod Schema
 pub mod Tags
 pub mod Messages
 pub mod Entries
+pub mod Worked

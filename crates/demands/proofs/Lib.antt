@@ -1,3 +1,4 @@
 pub mod Kept
 pub mod Five
 pub mod Clean
+pub mod Worked
