@@ -1,4 +1,4 @@
-// CPDLC: `parse_pdus` and `parse_apdu`. A frame is read without words first, so that a refusal leaves them all and the number of records is known before any is written.
+// CPDLC: `parse_pdus` and `parse_apdu`. A frame is read into spare words first, so that a refusal leaves the lent ones and the number of records is known before any is written.
 ghost use mathlib.Core.Path.{_≡_};
 ghost use Rattle.atn.specs.Entries.{parse-pdus, parse-apdu};
 ghost use Rattle.answers.specs.Says.{Says};
@@ -14,6 +14,9 @@ use verdicts::after_out;
 // The bytes of the longest frame.
 const LONGEST: usize = 8192;
 
+// The words of the first reading: enough for the records of most messages.
+const SPARE: usize = 128;
+
 // A frame of a known direction: 0 is the downlink, 1 the uplink.
 pub fn parse_pdus(frame: &[u8], direction: u64, down: &[u8], up: &[u8], words: &mut [u64]) -> Answer
     ensures { λ r. ⌜ Says r (now (words .exit)) (parse-pdus (now (frame .entry)) direction (now (down .entry)) (now (up .entry)) (now (words .entry))) ⌝ }
@@ -27,8 +30,9 @@ pub fn parse_pdus(frame: &[u8], direction: u64, down: &[u8], up: &[u8], words: &
     if 1 < direction {
         return refused(3);
     }
-    let v = try_frame(frame, words, direction, down, up);
-    answer_frame(frame, words, direction, down, up, v)
+    let mut spare = [0u64; SPARE];
+    let v = try_frame(frame, &mut spare, direction, down, up);
+    answer_frame(frame, words, &spare, direction, down, up, v)
 }
 
 // A frame of either direction: the downlink is read first, and the uplink where that is refused with 4 or 5.
@@ -41,18 +45,19 @@ pub fn parse_apdu(frame: &[u8], down: &[u8], up: &[u8], words: &mut [u64]) -> An
     if !tables_fit(down, up) {
         return refused(2);
     }
-    let v = try_frame(frame, words, 0, down, up);
+    let mut spare = [0u64; SPARE];
+    let v = try_frame(frame, &mut spare, 0, down, up);
     if v.why == 4 {
-        let u = try_frame(frame, words, 1, down, up);
+        let u = try_frame(frame, &mut spare, 1, down, up);
         let x = after_out(v.reach, u);
-        return answer_frame(frame, words, 1, down, up, x);
+        return answer_frame(frame, words, &spare, 1, down, up, x);
     }
     if v.why == 5 {
-        let u = try_frame(frame, words, 1, down, up);
+        let u = try_frame(frame, &mut spare, 1, down, up);
         let x = after_bad(v.reach, u);
-        return answer_frame(frame, words, 1, down, up, x);
+        return answer_frame(frame, words, &spare, 1, down, up, x);
     }
-    answer_frame(frame, words, 0, down, up, v)
+    answer_frame(frame, words, &spare, 0, down, up, v)
 }
 
 // Before anything is read.

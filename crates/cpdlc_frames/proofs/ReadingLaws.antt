@@ -1,25 +1,33 @@
 -- From the cursor behind a frame's message to what the reading says of the frame.
 use mathlib.Core.Path.{_≡_, refl, sym, ap, _∙_}
 use mathlib.Core.Bool.{Bool, true, false}
-use mathlib.Core.List.{List, [], _++_}
+use mathlib.Core.List.{List, [], _∷_, _++_}
 use Prim.Native.Nat.{ℕ, zero, suc, _*_, _≤_}
 use native.Mathlib.Omega.{arith}
-use lib.ListN.{length}
+use lib.ListN.{length, take, drop}
+use lib.Seq.{take-at}
 use Rattle.x691.specs.Bits.{bitOf}
 use Rattle.atn.specs.Format.{Why, out, bad, lack, quit}
-use Rattle.atn.specs.Reading.{Rec, Ans, ok, past, stop, or, read}
-use Rattle.atn.specs.Entries.{Reply, accept, ranOut, badly, unsupplied, stopped, reply, readFrame, pdus}
+use Rattle.atn.specs.Reading.{Rec, rec, Ans, ok, past, stop, or, read}
+use Rattle.atn.specs.Entries.{Reply, accept, ranOut, badly, unsupplied, stopped, reply, readFrame, pdus, flat, need}
 use Rattle.atn.proofs.Tame.{keepsStop, tame, tameFields, tameChoice}
 use Rattle.atn.proofs.Calm.{isQuit, givesUp, calm, calm-read}
 use Rattle.cursor.specs.declared.place.Cursor.{Cursor}
 use Rattle.cursor.specs.Place.{number, Inside}
 use Rattle.records.proofs.Passes.{counted}
-use Rattle.records.proofs.Telling.{dry-leaves}
+use Rattle.records.proofs.Putting.{puts-fits}
+use Rattle.records.proofs.Telling.{told-length}
 use Rattle.runs.specs.declared.At.{At}
 use Rattle.runs.specs.Runs.{given, Ran, stayed, went, passed, gaveUp, failed, Runs}
 use Rattle.pdus.specs.Pdus.{pduAt}
 use Rattle.verdicts.specs.declared.Verdict.{Verdict}
-use Rattle.verdicts.specs.Verdicts.{verdictOf, Tried, Tells}
+use Rattle.verdicts.specs.Verdicts.{verdictOf, Tried, Tells, Kept}
+
+-- the words of records are as many as they need
+pub flat-need : (R : List Rec) → length (flat R) ≡ need R
+unfolding flat need
+flat-need [] = refl
+flat-need (rec t n v u ∷ R) = ap (λ (k : ℕ). suc (suc (suc (suc k)))) (flat-need R) ∙ omega arith
 
 pdus-calm : (d : ℕ) (down up : List ℕ) → calm (pdus d down up) ≡ true
 unfolding pdus tame tameFields tameChoice keepsStop
@@ -91,22 +99,31 @@ module _ (d : ℕ) (down up s : List ℕ) where
   ran-tells (failed lack p m S n y a l q) x = let e = rw a at (x .is) in absurd (let z : _≡_ {A = ℕ} 0 1 = cc in omega arith)
   ran-tells (failed (quit o j t) p m S n y a l q) x = absurd (n refl)
 
-  ---------------------------------------------------------------- on no words
+  ---------------------------------------------------------------- into spare words
 
-  module _ {c : Cursor} {e : List ℕ} {x : At} (w : List ℕ) (from : c ≡ begin s) (runs : Runs 236124 (pduAt d down up s) s c 0 [] e x) where
-    run : Runs 236124 (pduAt d down up s) s (begin s) 0 [] e x
+  module _ {c : Cursor} {w k : List ℕ} {x : At} (from : c ≡ begin s) (runs : Runs 236124 (pduAt d down up s) s c 0 w k x) where
+    run : Runs 236124 (pduAt d down up s) s (begin s) 0 w k x
     run = rw from at runs
+
+    keeps : Kept frame k
+    keeps =
+        record {
+          kept = λ {R} t h.
+              let told = rw (ran-tells (run .ran (begin-inside s)) t) at (run .told) in
+              let fit : need R ≤ length w = rw (told-length told) at h in
+              rw (told .words, puts-fits w R fit) (take-at (flat R) (drop (need R) w) (need R) (flat-need R));
+        }
 
     abbrev counting : ℕ → ℕ → Verdict
     counting why n = record { why = why; reach = x .c .at; marks = x .c .marks; count = n }
 
-    pub tried-whole : x .c .why ≡ 0 → Tried frame (record { why = 0; reach = x .c .at; marks = x .c .marks; count = x .n }) w (e ++ w)
+    pub tried-whole : x .c .why ≡ 0 → Tried frame (record { why = 0; reach = x .c .at; marks = x .c .marks; count = x .n }) k
     unfolding verdictOf
-    tried-whole z = record { is = ap (counting 0) (counted (run .told)) ∙ sym (ap verdictOf (ran-whole (run .ran (begin-inside s)) z)); stays = dry-leaves w (run .told); few = run .told .few }
+    tried-whole z = record { is = ap (counting 0) (counted (run .told)) ∙ sym (ap verdictOf (ran-whole (run .ran (begin-inside s)) z)); few = run .told .few; keeps = keeps }
 
-    pub tried-cut : x .c .why ≡ 7 → Tried frame (record { why = 7; reach = x .c .at; marks = x .c .marks; count = x .n }) w (e ++ w)
+    pub tried-cut : x .c .why ≡ 7 → Tried frame (record { why = 7; reach = x .c .at; marks = x .c .marks; count = x .n }) k
     unfolding verdictOf
-    tried-cut z = record { is = ap (counting 7) (counted (run .told)) ∙ sym (ap verdictOf (ran-cut (run .ran (begin-inside s)) z)); stays = dry-leaves w (run .told); few = run .told .few }
+    tried-cut z = record { is = ap (counting 7) (counted (run .told)) ∙ sym (ap verdictOf (ran-cut (run .ran (begin-inside s)) z)); few = run .told .few; keeps = keeps }
 
-    pub tried-refused : (x .c .why ≡ 0 → ⊥) → (x .c .why ≡ 7 → ⊥) → Tried frame (record { why = x .c .why; reach = x .c .at; marks = 0; count = 0 }) w (e ++ w)
-    tried-refused n₀ n₇ = record { is = ran-refused (run .ran (begin-inside s)) n₀ n₇; stays = dry-leaves w (run .told); few = omega arith }
+    pub tried-refused : (x .c .why ≡ 0 → ⊥) → (x .c .why ≡ 7 → ⊥) → Tried frame (record { why = x .c .why; reach = x .c .at; marks = 0; count = 0 }) k
+    tried-refused n₀ n₇ = record { is = ran-refused (run .ran (begin-inside s)) n₀ n₇; few = omega arith; keeps = keeps }

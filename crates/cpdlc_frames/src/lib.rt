@@ -1,4 +1,4 @@
-// A frame read without words, and then with them.
+// A frame read into spare words first. Where its records do not fit those, it is read again into the lent ones.
 ghost use mathlib.Core.Path.{_≡_};
 ghost use Prim.Native.Nat.{_*_, _≤_, _<_, _^_};
 ghost use lib.ListN.{length};
@@ -6,11 +6,12 @@ ghost use Rattle.answers.specs.Says.{Says};
 ghost use mathlib.Core.List.{List};
 ghost use Rattle.atn.specs.Entries.{Reply, accept, pdus, readFrame, settle};
 ghost use Rattle.atn.specs.Reading.{Rec};
-ghost use Rattle.verdicts.specs.Verdicts.{verdictOf, Tried, Tells, Follows};
+ghost use Rattle.verdicts.specs.Verdicts.{verdictOf, Tried, Tells, Kept, Follows};
 use answers::Answer;
 use cursor::place::Cursor;
 use pdus::choices::read_pdu;
 use records::space::words_for;
+use spare_words::copy;
 use verdicts::Verdict;
 
 // The window is the whole frame.
@@ -26,12 +27,12 @@ fn start(frame: &[u8]) -> Cursor
     }
 }
 
-// The reading on no words: it counts the records, and leaves the words as they are.
-pub fn try_frame(frame: &[u8], words: &mut [u64], direction: u64, down: &[u8], up: &[u8]) -> Verdict
+// The reading into spare words: it counts the records, and keeps them if they fit.
+pub fn try_frame(frame: &[u8], spare: &mut [u64], direction: u64, down: &[u8], up: &[u8]) -> Verdict
     requires { ⌜ (length (now frame) ≤ 8192) × (1 ≤ length (now down)) × (length (now down) ≤ 256) × (1 ≤ length (now up)) × (length (now up) ≤ 256) × (direction ≤ 1) ⌝ }
-    ensures { λ r. ⌜ Tried (readFrame (pdus direction (now (down .entry)) (now (up .entry))) (now (frame .entry))) r (now (words .entry)) (now (words .exit)) ⌝ }
+    ensures { λ r. ⌜ Tried (readFrame (pdus direction (now (down .entry)) (now (up .entry))) (now (frame .entry))) r (now (spare .exit)) ⌝ }
 {
-    let x = read_pdu(frame, &mut words[..0], 0, start(frame), direction, down, up);
+    let x = read_pdu(frame, spare, 0, start(frame), direction, down, up);
     let count = x.n;
     let c = x.c;
     let why = c.why;
@@ -65,6 +66,7 @@ pub fn try_frame(frame: &[u8], words: &mut [u64], direction: u64, down: &[u8], u
 fn write_frame(
     frame: &[u8],
     words: &mut [u64],
+    spare: &[u64],
     direction: u64,
     down: &[u8],
     up: &[u8],
@@ -72,7 +74,7 @@ fn write_frame(
     v: Verdict,
 ) -> Answer
     requires { ⌜ (length (now frame) ≤ 8192) × (1 ≤ length (now down)) × (length (now down) ≤ 256) × (1 ≤ length (now up)) × (length (now up) ≤ 256) × (direction ≤ 1) × (v .count < 2 ^ 32) ⌝ }
-    ensures { λ r. ⌜ ((R : List Rec) → v .count ≡ length R → Tells R (readFrame (pdus direction (now (down .entry)) (now (up .entry))) (now (frame .entry))) → Says r (now (words .exit)) (settle (accept cut (v .reach) (v .marks) R) (now (words .entry)))) ⌝ }
+    ensures { λ r. ⌜ (Kept (readFrame (pdus direction (now (down .entry)) (now (up .entry))) (now (frame .entry))) (now (spare .entry)) → (R : List Rec) → v .count ≡ length R → Tells R (readFrame (pdus direction (now (down .entry)) (now (up .entry))) (now (frame .entry))) → Says r (now (words .exit)) (settle (accept cut (v .reach) (v .marks) R) (now (words .entry)))) ⌝ }
 {
     let need = words_for(v.count);
     if words.len() < need {
@@ -80,6 +82,15 @@ fn write_frame(
             number: 7,
             reach: v.reach,
             need: need,
+        };
+    }
+    if need <= spare.len() {
+        copy(&spare[..need], words);
+        return Answer::Accepted {
+            cut: cut,
+            reach: v.reach,
+            marks: v.marks,
+            count: v.count,
         };
     }
     read_pdu(frame, words, 0, start(frame), direction, down, up);
@@ -95,19 +106,20 @@ fn write_frame(
 pub fn answer_frame(
     frame: &[u8],
     words: &mut [u64],
+    spare: &[u64],
     direction: u64,
     down: &[u8],
     up: &[u8],
     v: Verdict,
 ) -> Answer
     requires { ⌜ (length (now frame) ≤ 8192) × (1 ≤ length (now down)) × (length (now down) ≤ 256) × (1 ≤ length (now up)) × (length (now up) ≤ 256) × (direction ≤ 1) × (v .count < 2 ^ 32) ⌝ }
-    ensures { λ r. ⌜ ((u : Reply) → v ≡ verdictOf u → Follows u (readFrame (pdus direction (now (down .entry)) (now (up .entry))) (now (frame .entry))) → Says r (now (words .exit)) (settle u (now (words .entry)))) ⌝ }
+    ensures { λ r. ⌜ (Kept (readFrame (pdus direction (now (down .entry)) (now (up .entry))) (now (frame .entry))) (now (spare .entry)) → (u : Reply) → v ≡ verdictOf u → Follows u (readFrame (pdus direction (now (down .entry)) (now (up .entry))) (now (frame .entry))) → Says r (now (words .exit)) (settle u (now (words .entry)))) ⌝ }
 {
     if v.why == 0 {
-        return write_frame(frame, words, direction, down, up, false, v);
+        return write_frame(frame, words, spare, direction, down, up, false, v);
     }
     if v.why == 7 {
-        return write_frame(frame, words, direction, down, up, true, v);
+        return write_frame(frame, words, spare, direction, down, up, true, v);
     }
     Answer::Refused {
         number: v.why,

@@ -1,3 +1,4 @@
+use mathlib.Core.Path.{refl}
 use native.Mathlib.Omega.{arith}
 use borrow.Author.Needs.{needs}
 use Rattle.verdicts.proofs.VerdictLaws.{follows-same}
@@ -28,7 +29,7 @@ answer-frame-requires c κs =
 returns-4 : tie.Need-returns-4
 returns-4 c =
     let tried = c .before .before .before .before .before .before .try-frame .ensures in
-    record { is = pdus-reads _ _ _ _ _ (c .before .before .before .before .before .before .before .before .before .before .before .if1 .left) (tables-hold _ _ (c .before .before .before .before .before .before .before .before .before .before .tables-fit .ensures) (c .before .before .before .before .before .before .before .before .before .if2 .left)) (c .before .before .before .before .before .before .before .before .if3 .left) (rw (tried .stays) at (c .before .before .answer-frame .ensures _ (tried .is) (follows-same _) .is)) }
+    record { is = pdus-reads _ _ _ _ _ (c .before .before .before .before .before .before .before .before .before .before .before .if1 .left) (tables-hold _ _ (c .before .before .before .before .before .before .before .before .before .before .tables-fit .ensures) (c .before .before .before .before .before .before .before .before .before .if2 .left)) (c .before .before .before .before .before .before .before .before .if3 .left) (c .before .before .answer-frame .ensures (tried .keeps) _ (tried .is) (follows-same _) .is) }
 
 pub parse-pdus-spec : {M : Type 1} → statement M
-parse-pdus-spec = tie.close (tie.spec (λ c κs. search needs) returns (λ c κs. search needs) (λ c κs. search needs) returns-2 (λ c κs. search needs) returns-3 try-frame-requires answer-frame-requires (λ c. search needs) returns-4)
+parse-pdus-spec = tie.close (tie.spec (λ c κs. search needs) returns (λ c κs. search needs) (λ c κs. search needs) returns-2 (λ c κs. search needs) returns-3 (λ c. search needs) try-frame-requires (λ c. search needs) answer-frame-requires (λ c. search needs) returns-4)
