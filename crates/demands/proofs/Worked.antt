@@ -19,8 +19,8 @@ use Rattle.atn.proofs.Worked.{alone, one, one-told, one-out, one-bad, one-lack,
 use Rattle.cursor.specs.declared.place.Cursor.{Cursor}
 use Rattle.cursor.specs.declared.place.Got.{Got}
 use Rattle.cursor.specs.Place.{number, put, marked, Inside, Led, stayed, went, failed, Reads}
-use Rattle.cursor.specs.Ranges.{Ends, ends}
 use Rattle.cursor.specs.Numbers.{lowest, highest}
+use Rattle.cursor.proofs.Table.{row-of}
 use Rattle.cursor.proofs.Laws.{reads-ok, marked-nil}
 use Rattle.cursor.proofs.LengthLaws.{takes-small}
 use Rattle.answers.specs.Says.{answerOf}
@@ -46,7 +46,7 @@ told-alone s c v = reads-ok _ 0 (marked-nil c)
 -- the contracts allow what the definitions give, and nothing else
 only-given : (q : Question) → Only q (given q)
 unfolding given mark
-only-given (range lo hi) = λ k r x e f. ap bits (x .fewest ∙ rw (e, f))
+only-given (range lo hi) = λ r x e f. ap bits (row-of x .fewest ∙ rw (e, f))
 only-given (field lo hi r) = λ k g e f x. reads-one _ (raw-bytes r) (raw-place (width (extent lo hi))) (g .c) (g .v) (omega arith) (rw (e, f) at (x .number 0 .took (0, 0)))
 only-given (count-of lo hi r) = λ k g e f x.
     reads-one _ (raw-bytes r) (raw-place (width (hi - lo))) (g .c) (g .v) (omega arith) (rw (e, f) at (x .size (λ n u p. alone n u p) (told-alone (raw-bytes r) (g .c) (g .v))))
@@ -73,8 +73,8 @@ all-only [] e = tt
 all-only ((q gives a) ∷ l) e = (subst (Only q) (ap (head-of a) e) (only-given q), all-only l (ap tail-of e))
 
 -- the ranges of the worked fields are rows of the code's table: year, size of an airport, level, count of elements
-pub worked-rows : map {B = Ends} (λ (k : ℕ). (lowest k, highest k)) (1 ∷ 47 ∷ 21 ∷ 54 ∷ []) ≡ (1996, 2095) ∷ (4, 4) ∷ (minus 60, 7000) ∷ (1, 5) ∷ []
-unfolding lowest highest ends
+pub worked-rows : map {B = ℕ × ℕ} (λ (k : ℕ). (lowest k, highest k)) (1 ∷ 47 ∷ 21 ∷ 54 ∷ []) ≡ (1996, 2095) ∷ (4, 4) ∷ (minus 60, 7000) ∷ (1, 5) ∷ []
+unfolding lowest highest
 worked-rows = refl
 
 -- the twelve worked frames marked P

@@ -14,7 +14,7 @@ use Rattle.cursor.specs.declared.place.Got.{Got}
 use Rattle.cursor.specs.declared.ranges.Range.{Range}
 use Rattle.cursor.specs.declared.lengths.Measured.{Measured}
 use Rattle.cursor.specs.Place.{marked}
-use Rattle.cursor.specs.Ranges.{Row}
+use Rattle.cursor.specs.Ranges.{Listed}
 use Rattle.cursor.specs.Numbers.{lowest, highest, Ranged}
 use Rattle.cursor.specs.Lengths.{Measures, Smalls}
 use Rattle.cursor.specs.Texts.{Sized}
@@ -34,8 +34,8 @@ of-got g = found (g .c .why) (g .c .marks) (g .v)
 
 -- whatever result the contract of the code allows, it is written as a
 abbrev pub Only : Question → Written → Type 0
--- `cursor::ranges::range_at`
-Only (range lo hi) a = (k : ℕ) (r : Range) → Row k r → r .lo ≡ lo → r .hi ≡ hi → bits (r .width) ≡ a
+-- the table of `cursor::ranges`
+Only (range lo hi) a = (r : Range) → Listed r → r .lo ≡ lo → r .hi ≡ hi → bits (r .width) ≡ a
 -- `cursor::numbers::ranged`
 Only (field lo hi r) a = (k : ℕ) (g : Got) → lowest k ≡ lo → highest k ≡ hi → Ranged k (raw-bytes r) (from (raw-bytes r) (raw-place (width (extent lo hi)))) g → of-got g ≡ a
 -- `cursor::texts::size`
