@@ -13,7 +13,8 @@ use acse_reasons::tags;
 use cursor::place::Cursor;
 use cursor::place::bits;
 use cursor::place::mark;
-use cursor::ranges;
+use cursor::ranges::ABORT_DIAGNOSTIC;
+use cursor::ranges::SIDE;
 
 // Two notes at most, and the place behind what was read for them.
 pub struct Body {
@@ -74,14 +75,14 @@ fn read_abort(s: &[u8], c: Cursor) -> Body
         return unread(extension.c, 2);
     }
     let presence = bits(s, extension.c, 1);
-    let source = reason(s, presence.c, ranges::SIDE, tags::ABORT_SOURCE);
+    let source = reason(s, presence.c, SIDE, tags::ABORT_SOURCE);
     if presence.v == 0 {
         return alone(source);
     }
     let diagnostic = reason(
         s,
         source.c,
-        ranges::ABORT_DIAGNOSTIC,
+        ABORT_DIAGNOSTIC,
         tags::ABORT_DIAGNOSTIC,
     );
     let first = source.note;
