@@ -13,8 +13,8 @@ use acse_reasons::tags;
 use cursor::place::Cursor;
 use cursor::place::bits;
 use cursor::place::mark;
-use cursor::ranges::ABORT_DIAGNOSTIC;
-use cursor::ranges::SIDE;
+use field_ranges::table::ABORT_DIAGNOSTIC;
+use field_ranges::table::SIDE;
 
 // Two notes at most, and the place behind what was read for them.
 pub struct Body {
@@ -79,12 +79,7 @@ fn read_abort(s: &[u8], c: Cursor) -> Body
     if presence.v == 0 {
         return alone(source);
     }
-    let diagnostic = reason(
-        s,
-        source.c,
-        ABORT_DIAGNOSTIC,
-        tags::ABORT_DIAGNOSTIC,
-    );
+    let diagnostic = reason(s, source.c, ABORT_DIAGNOSTIC, tags::ABORT_DIAGNOSTIC);
     let first = source.note;
     let next = diagnostic.note;
     let d = diagnostic.c;

@@ -7,18 +7,18 @@ ghost use lib.Dec.{leb};
 ghost use Rattle.x691.specs.Range.{member};
 ghost use Rattle.atn.specs.Reading.{unless};
 ghost use Rattle.atn.specs.Messages.{extReason};
-ghost use Rattle.cursor.specs.Ranges.{Listed};
-ghost use Rattle.cursor.specs.Numbers.{highest};
+ghost use Rattle.field_ranges.specs.Ranges.{Listed};
+ghost use Rattle.field_ranges.specs.Ends.{highest};
 ghost use Rattle.cursor.specs.Place.{marked};
 ghost use Rattle.acse_reasons.specs.Notes.{noteAt, noteRecs, listedReason};
 ghost use Rattle.acse_reasons.specs.SoFar.{Keeps};
 use super::notes::NoteAt;
 use super::notes::note_at;
-use cursor::numbers::ranged;
 use cursor::place::Cursor;
 use cursor::place::bits;
 use cursor::place::mark;
-use cursor::ranges::Range;
+use field_ranges::table::Range;
+use ranged_numbers::ranged;
 
 fn extended(c: Cursor, tag: u64) -> NoteAt
     ensures { λ r. ⌜ r ≡ noteAt (marked c 2) tag 0 1 ⌝ }

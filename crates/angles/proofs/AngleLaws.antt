@@ -14,9 +14,10 @@ use Rattle.cursor.specs.declared.place.Cursor.{Cursor}
 use Rattle.cursor.specs.declared.place.Got.{Got}
 use Rattle.cursor.specs.Place.{stopped, Inside, Pulls, Opens, Reads, Takes}
 use Rattle.cursor.specs.Formats.{Maybe, Fields}
-use Rattle.cursor.specs.Numbers.{lowest, highest, Ranged}
+use Rattle.field_ranges.specs.Ends.{lowest, highest}
+use Rattle.ranged_numbers.specs.Numbers.{Ranged}
 use Rattle.cursor.proofs.Laws.{reads-same, reads-stop}
-use Rattle.cursor.proofs.ChoiceLaws.{takes-index, takes-unlisted}
+use Rattle.ranged_numbers.proofs.ChoiceLaws.{takes-index, takes-unlisted}
 use Rattle.cursor.proofs.FormatLaws.{allRead, takes-choice, takes-plain, takes-opened, takes-noted, fields-must, fields-last, fields-may, fields-last-may, opened-inside, opened-bit, last-bit, maybe-back}
 use Rattle.angles.specs.declared.Form.{Form}
 use Rattle.angles.specs.declared.FormAt.{FormAt}

@@ -7,7 +7,7 @@ use Rattle.atn.specs.Messages as message
 use Rattle.cursor.specs.declared.place.Cursor.{Cursor}
 use Rattle.cursor.specs.Place.{Takes}
 use Rattle.cursor.specs.Formats.{Maybe}
-use Rattle.cursor.specs.Numbers.{lowest, highest}
+use Rattle.field_ranges.specs.Ends.{lowest, highest}
 use Rattle.angles.specs.declared.Form.{Form}
 use Rattle.angles.specs.declared.FormAt.{FormAt}
 use Rattle.angles.specs.declared.Angle.{Angle}

@@ -1,19 +1,19 @@
 // Latitude and longitude: a form, one to three numbers, and a side. They differ in their ranges and tags alone.
-ghost use Rattle.cursor.specs.Ranges.{Listed};
+ghost use Rattle.field_ranges.specs.Ranges.{Listed};
 ghost use Rattle.angles.specs.Angles.{Forms, Angles, MaybeAngles, Pairs, MaybePairs};
-use cursor::numbers::ranged;
 use cursor::place::Cursor;
 use cursor::place::bits;
 use cursor::place::presence;
 use cursor::place::stop;
-use cursor::ranges::HUNDREDTHS;
-use cursor::ranges::LATITUDE_DEGREES;
-use cursor::ranges::LATITUDE_THOUSANDTHS;
-use cursor::ranges::LONGITUDE_DEGREES;
-use cursor::ranges::LONGITUDE_THOUSANDTHS;
-use cursor::ranges::MINUTES;
-use cursor::ranges::Range;
-use cursor::ranges::SIDE;
+use field_ranges::table::HUNDREDTHS;
+use field_ranges::table::LATITUDE_DEGREES;
+use field_ranges::table::LATITUDE_THOUSANDTHS;
+use field_ranges::table::LONGITUDE_DEGREES;
+use field_ranges::table::LONGITUDE_THOUSANDTHS;
+use field_ranges::table::MINUTES;
+use field_ranges::table::Range;
+use field_ranges::table::SIDE;
+use ranged_numbers::ranged;
 
 // Form 0: thousandths of a degree; 1: degrees and hundredths of a minute; 2: degrees, minutes and seconds.
 pub struct Form {

@@ -18,8 +18,8 @@ use Rattle.cursor.specs.declared.place.Cursor.{Cursor}
 use Rattle.cursor.specs.declared.place.Got.{Got}
 use Rattle.cursor.specs.Place.{number, marked, Inside, Pulls, Led, Reads}
 use Rattle.cursor.specs.Place as place
-use Rattle.cursor.specs.Numbers.{lowest, highest}
-use Rattle.cursor.specs.Texts.{Sized}
+use Rattle.field_ranges.specs.Ends.{lowest, highest}
+use Rattle.character_strings.specs.Texts.{Sized}
 use Rattle.cursor.proofs.Laws.{led-inside, pulled-inside, reads-ok, marked-nil}
 use Rattle.runs.specs.declared.At.{At}
 use Rattle.runs.specs.Runs.{Ran, stayed, went, passed, gaveUp, failed, Runs}

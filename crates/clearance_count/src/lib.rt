@@ -1,11 +1,11 @@
 // The number of the route clearances that a message has behind its elements.
 ghost use Rattle.clearance_count.specs.Counts.{Counts};
+use character_strings::size;
 use cursor::place::Cursor;
 use cursor::place::Got;
 use cursor::place::bits;
 use cursor::place::mark;
-use cursor::ranges::CLEARANCES;
-use cursor::texts::size;
+use field_ranges::table::CLEARANCES;
 
 // The number of the clearances, none behind a set extension bit (mark 2) and none where they are absent.
 pub fn read_count(s: &[u8], c: Cursor) -> Got

@@ -23,7 +23,7 @@ use Rattle.cursor.specs.declared.place.Cursor.{Cursor}
 use Rattle.cursor.specs.declared.place.Got.{Got}
 use Rattle.cursor.specs.Place.{put, marked, stopped, Inside, Pulled, stuck, short, got, Pulls, Reads}
 use Rattle.cursor.proofs.Laws.{reads-same, reads-then, reads-ok, pull-then, marked-nil, bit-of, Behind}
-use Rattle.cursor.proofs.LengthLaws.{reads-mark}
+use Rattle.length_determinants.proofs.LengthLaws.{reads-mark}
 use Rattle.records.specs.Told.{Told}
 use Rattle.records.proofs.Telling.{told-none, told-then, told-within}
 use Rattle.runs.specs.declared.At.{At}

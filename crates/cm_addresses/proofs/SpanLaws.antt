@@ -11,11 +11,11 @@ use Rattle.atn.proofs.Steps.{sized-go}
 use Rattle.cursor.specs.declared.place.Cursor.{Cursor}
 use Rattle.cursor.specs.declared.place.Got.{Got}
 use Rattle.cursor.specs.Place.{Inside, Takes}
-use Rattle.cursor.specs.Lengths.{Passes}
-use Rattle.cursor.specs.Numbers.{lowest, highest}
-use Rattle.cursor.specs.Texts.{Sized}
+use Rattle.length_determinants.specs.Lengths.{Passes}
+use Rattle.field_ranges.specs.Ends.{lowest, highest}
+use Rattle.character_strings.specs.Texts.{Sized}
 use Rattle.cursor.proofs.Laws.{reads-same}
-use Rattle.cursor.proofs.LengthLaws.{passes-ok}
+use Rattle.length_determinants.proofs.LengthLaws.{passes-ok}
 use Rattle.cm_addresses.specs.Addresses.{Octets}
 
 module _ {t k n : ℕ} {s : List ℕ} {c d : Cursor} (e : n ≡ k * 8) (p : Passes c n d) where

@@ -7,12 +7,12 @@ ghost use Rattle.cursor.specs.Place.{Takes};
 ghost use Rattle.cursor.specs.Formats.{Maybe};
 ghost use Rattle.cm_parts.specs.Does.{Does};
 ghost use Rattle.cm_addresses.specs.Addresses.{Octets as Spanned, shortTsap};
+use character_strings::size;
 use cm_parts::parts::Step;
 use cm_parts::tags;
-use cursor::lengths::pass;
 use cursor::place::presence;
-use cursor::ranges::SELECTOR_SIZE;
-use cursor::texts::size;
+use field_ranges::table::SELECTOR_SIZE;
+use length_determinants::pass;
 use per::units::Octets;
 use records::emit;
 

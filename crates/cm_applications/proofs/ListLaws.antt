@@ -12,8 +12,8 @@ use Rattle.cursor.specs.declared.place.Cursor.{Cursor}
 use Rattle.cursor.specs.declared.place.Got.{Got}
 use Rattle.cursor.specs.Place.{stopped, Takes}
 use Rattle.cursor.specs.Formats.{Times}
-use Rattle.cursor.specs.Numbers.{lowest, highest}
-use Rattle.cursor.specs.Texts.{Sized}
+use Rattle.field_ranges.specs.Ends.{lowest, highest}
+use Rattle.character_strings.specs.Texts.{Sized}
 use Rattle.cursor.proofs.Laws.{reads-then, reads-ok, marked-nil}
 use Rattle.cursor.proofs.FormatLaws.{allRead}
 use Rattle.records.specs.Told.{Told}

@@ -4,14 +4,14 @@ ghost use Rattle.cursor.specs.Place.{Takes};
 ghost use Rattle.cursor.specs.Formats.{Maybe};
 ghost use Rattle.cm_parts.specs.Does.{Does};
 ghost use Rattle.cm_applications.specs.Applications.{At, entryOf, listOf};
+use character_strings::size;
 use cm_parts::parts::Step;
 use cm_parts::parts::number;
 use cm_parts::parts::refuse;
 use cm_parts::tags;
-use cursor::ranges::AE_QUALIFIER;
-use cursor::ranges::AP_VERSION;
-use cursor::ranges::APPLICATIONS;
-use cursor::texts::size;
+use field_ranges::table::AE_QUALIFIER;
+use field_ranges::table::AP_VERSION;
+use field_ranges::table::APPLICATIONS;
 use records::emit;
 
 // An entry, by its place in the list. There is no reader for its address.

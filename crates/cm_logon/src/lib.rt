@@ -15,13 +15,13 @@ use cm_parts::parts::number;
 use cm_parts::parts::refuse;
 use cm_parts::tags;
 use cursor::place::presence;
-use cursor::ranges::AIRPORT_SIZE;
-use cursor::ranges::DAY;
-use cursor::ranges::FLIGHT_SIZE;
-use cursor::ranges::HOURS;
-use cursor::ranges::MINUTES;
-use cursor::ranges::MONTH;
-use cursor::ranges::YEAR;
+use field_ranges::table::AIRPORT_SIZE;
+use field_ranges::table::DAY;
+use field_ranges::table::FLIGHT_SIZE;
+use field_ranges::table::HOURS;
+use field_ranges::table::MINUTES;
+use field_ranges::table::MONTH;
+use field_ranges::table::YEAR;
 
 fn etd_date(words: &mut [u64], at: Step, s: &[u8]) -> Step
     requires { ⌜ at .n < 2 ^ 19 ⌝ }

@@ -14,9 +14,9 @@ use cm_parts::parts::refuse;
 use cm_parts::tags;
 use cursor::place::bits;
 use cursor::place::mark;
-use cursor::ranges::CM_ABORT_REASON;
-use cursor::ranges::CM_FORWARD_RESPONSE;
-use cursor::ranges::SIDE;
+use field_ranges::table::CM_ABORT_REASON;
+use field_ranges::table::CM_FORWARD_RESPONSE;
+use field_ranges::table::SIDE;
 use records::emit;
 
 // There is no reader for a contact request.

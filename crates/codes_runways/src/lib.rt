@@ -1,10 +1,10 @@
 // A transponder code of four octal digits; a runway: direction 1 to 36, and its side.
 ghost use Rattle.codes_runways.specs.Readers.{Codes, Runways};
-use cursor::numbers::ranged;
 use cursor::place::Cursor;
-use cursor::ranges::CODE_DIGIT;
-use cursor::ranges::RUNWAY;
-use cursor::ranges::RUNWAY_SIDE;
+use field_ranges::table::CODE_DIGIT;
+use field_ranges::table::RUNWAY;
+use field_ranges::table::RUNWAY_SIDE;
+use ranged_numbers::ranged;
 
 pub struct Code {
     pub first: u64,

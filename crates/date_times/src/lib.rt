@@ -2,13 +2,13 @@
 ghost use Prim.Native.Nat.{_<_, _^_};
 ghost use Rattle.records.specs.Told.{Told};
 ghost use Rattle.date_times.specs.Times.{DateTimes, dateTimeRecs};
-use cursor::numbers::ranged;
 use cursor::place::Cursor;
-use cursor::ranges::DAY;
-use cursor::ranges::HOURS;
-use cursor::ranges::MINUTES;
-use cursor::ranges::MONTH;
-use cursor::ranges::YEAR;
+use field_ranges::table::DAY;
+use field_ranges::table::HOURS;
+use field_ranges::table::MINUTES;
+use field_ranges::table::MONTH;
+use field_ranges::table::YEAR;
+use ranged_numbers::ranged;
 use records::emit;
 
 pub struct DateTime {

@@ -19,10 +19,10 @@ use Rattle.atn.proofs.Worked.{alone, one, one-told, one-out, one-bad, one-lack,
 use Rattle.cursor.specs.declared.place.Cursor.{Cursor}
 use Rattle.cursor.specs.declared.place.Got.{Got}
 use Rattle.cursor.specs.Place.{number, put, marked, Inside, Led, stayed, went, failed, Reads}
-use Rattle.cursor.specs.Numbers.{lowest, highest}
-use Rattle.cursor.proofs.Table.{row-of}
+use Rattle.field_ranges.specs.Ends.{lowest, highest}
+use Rattle.field_ranges.proofs.WidthRule.{row-of}
 use Rattle.cursor.proofs.Laws.{reads-ok, marked-nil}
-use Rattle.cursor.proofs.LengthLaws.{takes-small}
+use Rattle.length_determinants.proofs.LengthLaws.{takes-small}
 use Rattle.answers.specs.Says.{answerOf}
 use Rattle.demands.specs.Worked.{from, found, of-got, Only}
 

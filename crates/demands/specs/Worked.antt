@@ -11,13 +11,14 @@ use Rattle.atn.specs.Entries.{parse-pdus}
 use Rattle.atn.specs.Worked.{Question, range, field, count-of, length-of, small-octets, frame, told, records-of, without-words, zeros, Written, bits, is, bad, other, raw-bytes, raw-place, small-bytes, lent, enters, of-answer, told-in, counted}
 use Rattle.cursor.specs.declared.place.Cursor.{Cursor}
 use Rattle.cursor.specs.declared.place.Got.{Got}
-use Rattle.cursor.specs.declared.ranges.Range.{Range}
-use Rattle.cursor.specs.declared.lengths.Measured.{Measured}
+use Rattle.field_ranges.specs.declared.table.Range.{Range}
+use Rattle.length_determinants.specs.declared.Measured.{Measured}
 use Rattle.cursor.specs.Place.{marked}
-use Rattle.cursor.specs.Ranges.{Listed}
-use Rattle.cursor.specs.Numbers.{lowest, highest, Ranged}
-use Rattle.cursor.specs.Lengths.{Measures, Smalls}
-use Rattle.cursor.specs.Texts.{Sized}
+use Rattle.field_ranges.specs.Ranges.{Listed}
+use Rattle.field_ranges.specs.Ends.{lowest, highest}
+use Rattle.ranged_numbers.specs.Numbers.{Ranged}
+use Rattle.length_determinants.specs.Lengths.{Measures, Smalls}
+use Rattle.character_strings.specs.Texts.{Sized}
 use Rattle.answers.specs.declared.Answer.{Answer}
 use Rattle.answers.specs.Says.{answerOf, Says}
 

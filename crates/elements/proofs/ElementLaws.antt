@@ -17,7 +17,7 @@ use Rattle.cursor.specs.declared.place.Cursor.{Cursor}
 use Rattle.cursor.specs.declared.place.Got.{Got}
 use Rattle.cursor.specs.Place.{put, stopped, Inside, Pulls, Reads, Takes}
 use Rattle.cursor.proofs.Laws.{reads-ok, marked-nil}
-use Rattle.cursor.proofs.ChoiceLaws.{takes-unlisted}
+use Rattle.ranged_numbers.proofs.ChoiceLaws.{takes-unlisted}
 use Rattle.records.specs.Told.{Told}
 use Rattle.records.proofs.Telling.{told-none}
 use Rattle.runs.specs.declared.At.{At}

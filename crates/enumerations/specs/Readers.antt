@@ -5,7 +5,7 @@ use Rattle.atn.specs.Format.{many}
 use Rattle.atn.specs.Messages as message
 use Rattle.cursor.specs.declared.place.Cursor.{Cursor}
 use Rattle.cursor.specs.Place.{Takes}
-use Rattle.cursor.specs.Numbers.{highest}
+use Rattle.field_ranges.specs.Ends.{highest}
 use Rattle.enumerations.specs.declared.NameAt.{NameAt}
 use Rattle.enumerations.specs.declared.TripleAt.{TripleAt}
 use Rattle.enumerations.specs.Records.{nameRecs, tripleRecs}

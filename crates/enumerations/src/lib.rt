@@ -1,18 +1,18 @@
 // Names and reasons with an extension marker. An extended one is told as value 0 and second number 1, and what follows the bit is not read.
 ghost use mathlib.Core.Path.{_≡_};
-ghost use Rattle.cursor.specs.Ranges.{Listed};
+ghost use Rattle.field_ranges.specs.Ranges.{Listed};
 ghost use Rattle.enumerations.specs.Readers.{Names, Reasons, Triples};
-use cursor::numbers::named;
-use cursor::numbers::ranged;
 use cursor::place::Cursor;
 use cursor::place::bits;
 use cursor::place::mark;
-use cursor::ranges::CLEARANCE_TYPE;
-use cursor::ranges::ERROR_INFORMATION;
-use cursor::ranges::FACILITY_FUNCTION;
-use cursor::ranges::Range;
-use cursor::ranges::SPEED_TYPE;
-use cursor::ranges::TRAFFIC_TYPE;
+use field_ranges::table::CLEARANCE_TYPE;
+use field_ranges::table::ERROR_INFORMATION;
+use field_ranges::table::FACILITY_FUNCTION;
+use field_ranges::table::Range;
+use field_ranges::table::SPEED_TYPE;
+use field_ranges::table::TRAFFIC_TYPE;
+use ranged_numbers::named;
+use ranged_numbers::ranged;
 
 pub struct Name {
     pub value: u64,

@@ -19,7 +19,7 @@ use Rattle.cursor.specs.declared.place.Got.{Got}
 use Rattle.cursor.specs.Place.{Inside, Pulls, Led, Reads}
 use Rattle.cursor.specs.Place as place
 use Rattle.cursor.proofs.Laws.{reads-same, reads-then, reads-ok, marked-nil, pull-then}
-use Rattle.cursor.proofs.LengthLaws.{known-some}
+use Rattle.length_determinants.proofs.LengthLaws.{known-some}
 use Rattle.cursor.proofs.FormatLaws.{allRead, reads-plain, reads-going, takes-back}
 use Rattle.records.specs.Told.{Told}
 use Rattle.records.proofs.Telling.{told-none, told-then, told-within}

@@ -9,13 +9,13 @@ use Rattle.atn.specs.Format.{span}
 use Rattle.atn.specs.Reading.{rec, Ctx, Ans, ok, pull, spanned, flags, read}
 use Rattle.atn.proofs.Steps.{sized-go}
 use Rattle.cursor.specs.declared.place.Cursor.{Cursor}
-use Rattle.cursor.specs.declared.texts.TextAt.{TextAt}
-use Rattle.cursor.specs.Lengths.{Passes}
-use Rattle.cursor.specs.Numbers.{lowest, highest}
+use Rattle.character_strings.specs.declared.TextAt.{TextAt}
+use Rattle.length_determinants.specs.Lengths.{Passes}
+use Rattle.field_ranges.specs.Ends.{lowest, highest}
 use Rattle.cursor.specs.Place.{Inside, Takes}
-use Rattle.cursor.specs.Texts.{Texts}
+use Rattle.character_strings.specs.Texts.{Texts}
 use Rattle.cursor.proofs.Laws.{reads-same}
-use Rattle.cursor.proofs.LengthLaws.{passes-ok}
+use Rattle.length_determinants.proofs.LengthLaws.{passes-ok}
 use Rattle.cursor.proofs.FormatLaws.{allRead, takes-plain, fields-must, fields-last}
 use Rattle.date_times.specs.declared.DateTimeAt.{DateTimeAt}
 use Rattle.date_times.specs.Times.{DateTimes}

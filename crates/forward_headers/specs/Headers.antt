@@ -7,7 +7,7 @@ use Rattle.atn.specs.Reading.{Rec, rec}
 use Rattle.atn.specs.Tags as tag
 use Rattle.cursor.specs.declared.place.Cursor.{Cursor}
 use Rattle.cursor.specs.Place.{Takes}
-use Rattle.cursor.specs.Texts.{textRecs, InFrame}
+use Rattle.character_strings.specs.Texts.{textRecs, InFrame}
 use Rattle.date_times.specs.Times.{dateTimeRecs}
 use Rattle.forward_headers.specs.declared.Header.{Header}
 use Rattle.forward_headers.specs.declared.HeaderAt.{HeaderAt}

@@ -1,16 +1,16 @@
 // The header of a forward message. It is read as a value, so that nothing of it is told where the body ends early.
 ghost use Prim.Native.Nat.{_<_, _^_};
-ghost use Rattle.cursor.specs.Texts.{InFrame};
+ghost use Rattle.character_strings.specs.Texts.{InFrame};
 ghost use Rattle.forward_headers.specs.Headers.{Headers, headerRecs};
 ghost use Rattle.records.specs.Told.{Told};
-use cursor::lengths::pass;
+use character_strings::Text;
+use character_strings::ia5;
 use cursor::place::Cursor;
-use cursor::ranges::FLIGHT_SIZE;
-use cursor::texts::Text;
-use cursor::texts::ia5;
 use date_times::DateTime;
 use date_times::read_date_time;
 use date_times::tell_date_time;
+use field_ranges::table::FLIGHT_SIZE;
+use length_determinants::pass;
 use per::units::Bits;
 use records::emit;
 use tell::tell_text;

@@ -10,11 +10,12 @@ use Rattle.atn.specs.Reading.{rec, readChoice}
 use Rattle.atn.specs.Messages as message
 use Rattle.cursor.specs.declared.place.Cursor.{Cursor}
 use Rattle.cursor.specs.declared.place.Got.{Got}
-use Rattle.cursor.specs.declared.texts.TextAt.{TextAt}
+use Rattle.character_strings.specs.declared.TextAt.{TextAt}
 use Rattle.cursor.specs.Place.{Pulls, Takes}
-use Rattle.cursor.specs.Numbers.{lowest, highest, rowsThen, Ranged}
-use Rattle.cursor.specs.Texts.{Channel, channelRecs}
-use Rattle.cursor.proofs.ChoiceLaws.{takes-index, takes-row}
+use Rattle.field_ranges.specs.Ends.{lowest, highest}
+use Rattle.ranged_numbers.specs.Numbers.{rowsThen, Ranged}
+use Rattle.character_strings.specs.Texts.{Channel, channelRecs}
+use Rattle.ranged_numbers.proofs.ChoiceLaws.{takes-index, takes-row}
 use Rattle.frequencies.specs.declared.Frequency.{Frequency}
 use Rattle.frequencies.specs.Records.{frequencyRecs, numberOrChannel}
 use Rattle.frequencies.specs.Readers.{Frequencies}

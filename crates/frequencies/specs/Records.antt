@@ -3,8 +3,8 @@ use mathlib.Core.List.{List, [], _∷_}
 use Prim.Native.Nat.{ℕ, zero, suc, _≤_}
 use Rattle.atn.specs.Reading.{Rec, rec}
 use Rattle.atn.specs.Tags as tag
-use Rattle.cursor.specs.declared.texts.Text.{Text}
-use Rattle.cursor.specs.Texts.{channelRecs, InFrame}
+use Rattle.character_strings.specs.declared.Text.{Text}
+use Rattle.character_strings.specs.Texts.{channelRecs, InFrame}
 use Rattle.frequencies.specs.declared.Frequency.{Frequency}
 
 -- behind the kind: a number, or the digits of a channel

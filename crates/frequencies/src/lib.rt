@@ -1,12 +1,12 @@
 // A frequency: a kind and a number of that kind's range, or the digits of a satellite channel.
 ghost use Rattle.frequencies.specs.Readers.{Frequencies};
-use cursor::numbers::ranged;
+use character_strings::Text;
+use character_strings::channel;
 use cursor::place::Cursor;
 use cursor::place::bits;
-use cursor::ranges::FREQUENCY_0;
-use cursor::ranges::range_at;
-use cursor::texts::Text;
-use cursor::texts::channel;
+use field_ranges::table::FREQUENCY_0;
+use field_ranges::table::range_at;
+use ranged_numbers::ranged;
 
 // kind 3 has a channel and no number, every other a number and no channel
 pub struct Frequency {

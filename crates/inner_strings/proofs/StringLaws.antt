@@ -12,8 +12,8 @@ use Rattle.atn.specs.Format.{Fmt, inner}
 use Rattle.atn.specs.Reading.{read}
 use Rattle.atn.proofs.Shift.{placeless}
 use Rattle.cursor.specs.declared.place.Cursor.{Cursor}
-use Rattle.cursor.specs.declared.lengths.Measured.{Measured}
-use Rattle.cursor.specs.Lengths.{Measures, Passes}
+use Rattle.length_determinants.specs.declared.Measured.{Measured}
+use Rattle.length_determinants.specs.Lengths.{Measures, Passes}
 use Rattle.cursor.specs.Place.{stopped, Inside}
 use Rattle.runs.specs.declared.At.{At}
 use Rattle.runs.specs.Runs.{Runs}

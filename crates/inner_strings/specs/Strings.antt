@@ -4,8 +4,8 @@ use mathlib.Core.List.{List}
 use Prim.Native.Nat.{ℕ, _+_, _*_, _/_, _%_, _≤_, _<_}
 use lib.ListN.{length}
 use Rattle.cursor.specs.declared.place.Cursor.{Cursor}
-use Rattle.cursor.specs.declared.lengths.Measured.{Measured}
-use Rattle.cursor.specs.Lengths.{Measures, Passes}
+use Rattle.length_determinants.specs.declared.Measured.{Measured}
+use Rattle.length_determinants.specs.Lengths.{Measures, Passes}
 use Rattle.inner_strings.specs.declared.Inner.{Inner}
 use Rattle.inner_strings.specs.declared.Inner.the-variants.{Lost, Found}
 

@@ -2,10 +2,10 @@
 ghost use Prim.Native.Nat.{_≤_};
 ghost use lib.ListN.{length};
 ghost use Rattle.inner_strings.specs.Strings.{Strings};
-use cursor::lengths::length;
-use cursor::lengths::pass;
 use cursor::place::Cursor;
 use cursor::place::stop;
+use length_determinants::length;
+use length_determinants::pass;
 use per::room::holds;
 use per::units::Bits;
 

@@ -8,10 +8,10 @@ use Rattle.x691.specs.Bits.{bitOf}
 use Rattle.atn.specs.Format.{anySpan}
 use Rattle.atn.specs.Reading.{Rec, rec, Ans, or, mark, spanned, read}
 use Rattle.cursor.specs.declared.place.Cursor.{Cursor}
-use Rattle.cursor.specs.declared.lengths.Measured.{Measured}
+use Rattle.length_determinants.specs.declared.Measured.{Measured}
 use Rattle.cursor.specs.Place.{put, Inside, Led, Takes}
-use Rattle.cursor.specs.Lengths.{Measures, Passes}
-use Rattle.cursor.proofs.LengthLaws.{takes-any-span}
+use Rattle.length_determinants.specs.Lengths.{Measures, Passes}
+use Rattle.length_determinants.proofs.LengthLaws.{takes-any-span}
 use Rattle.records.specs.Told.{Told}
 use Rattle.records.proofs.Telling.{told-none, told-within}
 use Rattle.runs.specs.declared.At.{At}

@@ -12,8 +12,8 @@ use Rattle.atn.specs.Messages as message
 use Rattle.cursor.specs.declared.place.Cursor.{Cursor}
 use Rattle.cursor.specs.declared.place.Got.{Got}
 use Rattle.cursor.specs.Place.{Reads, Takes}
-use Rattle.cursor.specs.Texts.{Sized}
-use Rattle.cursor.specs.Numbers.{lowest, highest}
+use Rattle.character_strings.specs.Texts.{Sized}
+use Rattle.field_ranges.specs.Ends.{lowest, highest}
 use Rattle.cursor.proofs.Laws.{reads-then, reads-ok, marked-nil}
 use Rattle.runs.specs.declared.At.{At}
 use Rattle.optional_parts.specs.Parts.{Part}

@@ -13,8 +13,8 @@ use Rattle.atn.specs.Messages as message
 use Rattle.cursor.specs.declared.place.Cursor.{Cursor}
 use Rattle.cursor.specs.declared.place.Got.{Got}
 use Rattle.cursor.specs.Place.{stopped, Pulls, Takes}
-use Rattle.cursor.specs.Texts.{textRecs}
-use Rattle.cursor.proofs.ChoiceLaws.{takes-index, takes-unlisted}
+use Rattle.character_strings.specs.Texts.{textRecs}
+use Rattle.ranged_numbers.proofs.ChoiceLaws.{takes-index, takes-unlisted}
 use Rattle.cursor.proofs.FormatLaws.{allRead, takes-plain, takes-refuse, takes-times, fields-must, fields-last, times-none, times-more}
 use Rattle.angles.specs.declared.Pair.{Pair}
 use Rattle.named_places.specs.declared.Published.{Published}
@@ -22,7 +22,7 @@ use Rattle.angles.specs.Angles.{pairRecs}
 use Rattle.named_places.specs.Names.{publishedRecs}
 use Rattle.legs.specs.declared.Bearing.{Bearing}
 use Rattle.legs.specs.declared.Leg.the-variants.{Place, Coordinates, Between, Designator, Unread}
-use Rattle.cursor.specs.declared.texts.Text.{Text}
+use Rattle.character_strings.specs.declared.Text.{Text}
 use Rattle.legs.specs.Legs.{bearing, ranging, routeInformation, bearingRecs, legRecs, Rangings}
 use Rattle.optional_parts.proofs.PartLaws.{reads-any}
 

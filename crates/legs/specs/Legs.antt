@@ -8,7 +8,7 @@ use Rattle.atn.specs.Messages as message
 use Rattle.atn.specs.Tags as tag
 use Rattle.cursor.specs.declared.place.Cursor.{Cursor}
 use Rattle.cursor.specs.Place.{Takes}
-use Rattle.cursor.specs.Texts.{textRecs}
+use Rattle.character_strings.specs.Texts.{textRecs}
 use Rattle.quantities.specs.Records.{quantityRecs}
 use Rattle.angles.specs.Angles.{pairRecs}
 use Rattle.named_places.specs.Names.{Held, publishedRecs}

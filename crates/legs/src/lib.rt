@@ -2,12 +2,12 @@
 ghost use Rattle.legs.specs.Legs.{Bearings, Rangings, Legs};
 use angles::Pair;
 use angles::read_latlon;
+use character_strings::Text;
+use character_strings::ia5;
 use cursor::place::Cursor;
 use cursor::place::bits;
 use cursor::place::stop;
-use cursor::ranges::ROUTE_SIZE;
-use cursor::texts::Text;
-use cursor::texts::ia5;
+use field_ranges::table::ROUTE_SIZE;
 use named_places::Published;
 use named_places::read_published;
 use quantities::Quantity;

@@ -13,9 +13,9 @@ use Rattle.atn.proofs.Tame.{tame, tameFields}
 use Rattle.atn.proofs.Elements.{elements-firm}
 use Rattle.cursor.specs.declared.place.Cursor.{Cursor}
 use Rattle.cursor.specs.declared.place.Got.{Got}
-use Rattle.cursor.specs.Numbers.{lowest, highest}
+use Rattle.field_ranges.specs.Ends.{lowest, highest}
 use Rattle.cursor.specs.Place.{Inside, Opens}
-use Rattle.cursor.specs.Texts.{Sized}
+use Rattle.character_strings.specs.Texts.{Sized}
 use Rattle.cursor.proofs.Laws.{reads-ok, marked-nil}
 use Rattle.cursor.proofs.FormatLaws.{allRead, opened-inside, opened-bit, last-bit}
 use Rattle.records.proofs.Telling.{told-then}

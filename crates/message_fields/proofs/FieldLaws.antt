@@ -9,7 +9,8 @@ use Rattle.atn.specs.Messages.{dateTimeGroup}
 use Rattle.atn.specs.Reading.{Ans, ok, rec, fork, read}
 use Rattle.cursor.specs.declared.place.Cursor.{Cursor}
 use Rattle.cursor.specs.declared.place.Got.{Got}
-use Rattle.cursor.specs.Numbers.{lowest, highest, Ranged}
+use Rattle.field_ranges.specs.Ends.{lowest, highest}
+use Rattle.ranged_numbers.specs.Numbers.{Ranged}
 use Rattle.cursor.proofs.Laws.{reads-ok, marked-nil}
 use Rattle.records.specs.Told.{Told}
 use Rattle.runs.specs.declared.At.{At}

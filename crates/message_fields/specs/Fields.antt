@@ -6,7 +6,7 @@ use Rattle.atn.specs.Format.{num}
 use Rattle.atn.specs.Messages.{dateTimeGroup}
 use Rattle.atn.specs.Reading.{Ans, ok, rec, fork, read}
 use Rattle.atn.specs.Tags as tag
-use Rattle.cursor.specs.Numbers.{lowest, highest}
+use Rattle.field_ranges.specs.Ends.{lowest, highest}
 
 unfoldable pub numberField : ℕ → ℕ → List ℕ → ℕ → ℕ → Ans
 numberField row t s e p = read (num t (lowest row) (highest row)) (0, 0) (bitOf s) e p

@@ -1,13 +1,13 @@
 // Numbers of the header that are read and, if the reading goes on, told at once.
 ghost use Prim.Native.Nat.{_<_, _^_};
-ghost use Rattle.cursor.specs.Ranges.{Listed};
+ghost use Rattle.field_ranges.specs.Ranges.{Listed};
 ghost use Rattle.message_fields.specs.Fields.{numberField, maybeNumberField, dateTimeField, acknowledgmentField};
 ghost use Rattle.runs.specs.Runs.{Runs};
-use cursor::numbers::ranged;
-use cursor::ranges::Range;
-use cursor::ranges::SIDE;
 use date_times::read_date_time;
 use date_times::tell_date_time;
+use field_ranges::table::Range;
+use field_ranges::table::SIDE;
+use ranged_numbers::ranged;
 use records::emit;
 use runs::At;
 

@@ -11,11 +11,11 @@ use Rattle.atn.specs.Format.{Fmt, seq, choice, end, _⨾_, _⨾?_, none-left, _
 use Rattle.atn.specs.Reading.{Rec, rec, flags, readChoice}
 use Rattle.cursor.specs.declared.place.Cursor.{Cursor}
 use Rattle.cursor.specs.declared.place.Got.{Got}
-use Rattle.cursor.specs.declared.texts.TextAt.{TextAt}
+use Rattle.character_strings.specs.declared.TextAt.{TextAt}
 use Rattle.cursor.specs.Place.{Pulls, Opens, Takes}
 use Rattle.cursor.specs.Formats.{Maybe}
-use Rattle.cursor.specs.Texts.{Texts}
-use Rattle.cursor.proofs.ChoiceLaws.{takes-index}
+use Rattle.character_strings.specs.Texts.{Texts}
+use Rattle.ranged_numbers.proofs.ChoiceLaws.{takes-index}
 use Rattle.cursor.proofs.FormatLaws.{allRead, takes-opened, fields-must, fields-last-may, opened-inside, last-bit, takes-back}
 use Rattle.frequencies.proofs.Indices.{pulls-last}
 use Rattle.named_places.specs.Names.{Held}

@@ -6,10 +6,10 @@ use Rattle.atn.specs.Reading.{Rec, rec}
 use Rattle.atn.specs.Messages as message
 use Rattle.atn.specs.Tags as tag
 use Rattle.cursor.specs.declared.place.Cursor.{Cursor}
-use Rattle.cursor.specs.declared.texts.Text.{Text}
+use Rattle.character_strings.specs.declared.Text.{Text}
 use Rattle.cursor.specs.Place.{Takes}
-use Rattle.cursor.specs.Numbers.{lowest, highest}
-use Rattle.cursor.specs.Texts.{textRecs, InFrame}
+use Rattle.field_ranges.specs.Ends.{lowest, highest}
+use Rattle.character_strings.specs.Texts.{textRecs, InFrame}
 use Rattle.named_places.specs.declared.Named.{Named}
 use Rattle.named_places.specs.declared.NamedAt.{NamedAt}
 use Rattle.named_places.specs.declared.Published.{Published}

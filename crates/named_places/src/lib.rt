@@ -1,19 +1,19 @@
 // Named places, published ones, and procedures: texts by their places in the frame, with what may follow them.
-ghost use Rattle.cursor.specs.Texts.{SizeRow};
+ghost use Rattle.character_strings.specs.Texts.{SizeRow};
 ghost use Rattle.named_places.specs.Names.{NamedPlaces, PublishedPlaces, Procedures};
 use angles::MaybePair;
 use angles::read_maybe_latlon;
+use character_strings::Text;
+use character_strings::ia5;
 use cursor::place::Cursor;
 use cursor::place::bits;
 use cursor::place::presence;
-use cursor::ranges::FIX_SIZE;
-use cursor::ranges::NAVAID_SIZE;
-use cursor::ranges::PROCEDURE;
-use cursor::ranges::PROCEDURE_SIZE;
-use cursor::ranges::Range;
-use cursor::ranges::TRANSITION_SIZE;
-use cursor::texts::Text;
-use cursor::texts::ia5;
+use field_ranges::table::FIX_SIZE;
+use field_ranges::table::NAVAID_SIZE;
+use field_ranges::table::PROCEDURE;
+use field_ranges::table::PROCEDURE_SIZE;
+use field_ranges::table::Range;
+use field_ranges::table::TRANSITION_SIZE;
 
 pub struct Named {
     pub name: Text,
@@ -105,7 +105,7 @@ pub fn read_procedure(s: &[u8], c: Cursor) -> ProcedureAt
     ensures { λ r. ⌜ Procedures (now (s .entry)) c r ⌝ }
 {
     let flags = presence(s, c, 1);
-    let kind = cursor::numbers::named(s, flags.c, PROCEDURE);
+    let kind = ranged_numbers::named(s, flags.c, PROCEDURE);
     let name = ia5(s, kind.c, PROCEDURE_SIZE);
     let text = name.text;
     if flags.v % 2 == 0 {

@@ -9,7 +9,7 @@ use Rattle.cursor.specs.declared.place.Cursor.{Cursor}
 use Rattle.cursor.specs.Place.{Inside, Led, stayed, went, failed, Reads, Takes}
 use Rattle.cursor.proofs.Laws.{led-stays, reads-then, reads-ok, marked-nil}
 use Rattle.cursor.proofs.FormatLaws.{reads-going}
-use Rattle.cursor.proofs.LengthLaws.{reads-clear, reads-set}
+use Rattle.length_determinants.proofs.LengthLaws.{reads-clear, reads-set}
 use Rattle.records.specs.Told.{Told}
 use Rattle.records.proofs.Telling.{told-none, told-then, told-within}
 use Rattle.runs.specs.declared.At.{At}

@@ -13,7 +13,7 @@ use Rattle.atn.specs.Tags as tag
 use Rattle.atn.proofs.Tame.{tame}
 use Rattle.cursor.specs.declared.place.Cursor.{Cursor}
 use Rattle.cursor.specs.declared.place.Got.{Got}
-use Rattle.cursor.specs.Numbers.{lowest, highest}
+use Rattle.field_ranges.specs.Ends.{lowest, highest}
 use Rattle.cursor.specs.Place.{stopped, Opens}
 use Rattle.cursor.proofs.Laws.{reads-same, reads-stop}
 use Rattle.cursor.proofs.FormatLaws.{allRead, opened-inside, last-bit}

@@ -9,9 +9,9 @@ use Rattle.atn.specs.Reading.{rec, mark, read}
 use Rattle.atn.specs.Tags as tag
 use Rattle.cursor.specs.declared.place.Cursor.{Cursor}
 use Rattle.cursor.specs.declared.place.Got.{Got}
-use Rattle.cursor.specs.Lengths.{Smalls}
+use Rattle.length_determinants.specs.Lengths.{Smalls}
 use Rattle.cursor.specs.Place.{marked}
-use Rattle.cursor.proofs.LengthLaws.{takes-small}
+use Rattle.length_determinants.proofs.LengthLaws.{takes-small}
 use Rattle.records.specs.Told.{Told}
 use Rattle.runs.specs.Runs.{Runs}
 use Rattle.runs.proofs.FrameLaws.{runs-noted}

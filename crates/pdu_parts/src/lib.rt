@@ -2,14 +2,14 @@
 ghost use mathlib.Core.Path.{_≡_};
 ghost use Prim.Native.Nat.{_≤_, _<_, _^_};
 ghost use lib.ListN.{length};
-ghost use Rattle.cursor.specs.Ranges.{Listed};
+ghost use Rattle.field_ranges.specs.Ranges.{Listed};
 ghost use Rattle.pdu_parts.specs.Parts.{reasonAt, extensionAt};
 ghost use Rattle.runs.specs.Runs.{Runs};
-use cursor::lengths::small;
 use cursor::place::Cursor;
 use cursor::place::mark;
-use cursor::ranges::Range;
 use enumerations::read_reason;
+use field_ranges::table::Range;
+use length_determinants::small;
 use records::emit;
 use runs::At;
 use tell_values::tell_name;

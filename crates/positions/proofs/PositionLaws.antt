@@ -10,11 +10,11 @@ use Rattle.atn.specs.Reading.{Ctx, stop, mark, read, readChoice}
 use Rattle.atn.specs.Messages as message
 use Rattle.cursor.specs.declared.place.Cursor.{Cursor}
 use Rattle.cursor.specs.declared.place.Got.{Got}
-use Rattle.cursor.specs.declared.texts.TextAt.{TextAt}
+use Rattle.character_strings.specs.declared.TextAt.{TextAt}
 use Rattle.cursor.specs.Place.{stopped, Pulls}
-use Rattle.cursor.specs.Numbers.{lowest, highest}
-use Rattle.cursor.specs.Texts.{Texts}
-use Rattle.cursor.proofs.ChoiceLaws.{takes-index, takes-unlisted}
+use Rattle.field_ranges.specs.Ends.{lowest, highest}
+use Rattle.character_strings.specs.Texts.{Texts}
+use Rattle.ranged_numbers.proofs.ChoiceLaws.{takes-index, takes-unlisted}
 use Rattle.angles.specs.declared.PairAt.{PairAt}
 use Rattle.named_places.specs.declared.NamedAt.{NamedAt}
 use Rattle.positions.specs.declared.Position.the-variants.{Fix, Navaid, Airport, Coordinates, Unread}

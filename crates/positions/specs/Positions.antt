@@ -9,7 +9,7 @@ use Rattle.atn.specs.Tags as tag
 use Rattle.cursor.specs.declared.place.Cursor.{Cursor}
 use Rattle.cursor.specs.declared.place.Got.{Got}
 use Rattle.cursor.specs.Place.{put, Inside, Takes}
-use Rattle.cursor.specs.Texts.{textRecs}
+use Rattle.character_strings.specs.Texts.{textRecs}
 use Rattle.positions.specs.declared.Position.{Position}
 use Rattle.positions.specs.declared.Position.the-variants.{Fix, Navaid, Airport, Coordinates, Unread}
 use Rattle.positions.specs.declared.PositionAt.{PositionAt}

@@ -2,17 +2,17 @@
 ghost use Rattle.positions.specs.Positions.{Flags, Positions, Departures};
 use angles::Pair;
 use angles::read_latlon;
+use character_strings::Text;
+use character_strings::ia5;
 use cursor::place::Cursor;
 use cursor::place::Got;
 use cursor::place::bits;
 use cursor::place::mark;
 use cursor::place::stop;
-use cursor::ranges::AIRPORT_SIZE;
-use cursor::ranges::FIX_SIZE;
-use cursor::ranges::FLIGHT_SIZE;
-use cursor::ranges::NAVAID_SIZE;
-use cursor::texts::Text;
-use cursor::texts::ia5;
+use field_ranges::table::AIRPORT_SIZE;
+use field_ranges::table::FIX_SIZE;
+use field_ranges::table::FLIGHT_SIZE;
+use field_ranges::table::NAVAID_SIZE;
 use named_places::Named;
 use named_places::read_named;
 

@@ -13,11 +13,11 @@ use Rattle.atn.specs.Tags as tag
 use Rattle.atn.proofs.Tame.{tame}
 use Rattle.cursor.specs.declared.place.Cursor.{Cursor}
 use Rattle.cursor.specs.declared.place.Got.{Got}
-use Rattle.cursor.specs.declared.lengths.Measured.{Measured}
-use Rattle.cursor.specs.Lengths.{Measures, Passes}
+use Rattle.length_determinants.specs.declared.Measured.{Measured}
+use Rattle.length_determinants.specs.Lengths.{Measures, Passes}
 use Rattle.cursor.specs.Place.{marked, stopped, Inside, Pulls, Opens, Reads}
 use Rattle.cursor.proofs.Laws.{reads-ok, marked-nil}
-use Rattle.cursor.proofs.LengthLaws.{reads-clear, reads-set, takes-skipped}
+use Rattle.length_determinants.proofs.LengthLaws.{reads-clear, reads-set, takes-skipped}
 use Rattle.cursor.proofs.FormatLaws.{allRead, takes-refuse, opened-inside, opened-bit, last-bit}
 use Rattle.records.specs.Told.{Told}
 use Rattle.records.proofs.Telling.{told-then}

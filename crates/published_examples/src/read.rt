@@ -1,10 +1,10 @@
 // What is read, printed.
 ghost use Prim.Native.Nat.{_≤_};
 ghost use lib.ListN.{length};
-use cursor::lengths::length;
-use cursor::lengths::small;
 use cursor::place::Cursor;
 use cursor::place::bits;
+use length_determinants::length;
+use length_determinants::small;
 
 // The longest frame that the cursor reads.
 const LIMIT: usize = 8192;

@@ -3,7 +3,7 @@ use mathlib.Core.Path.{_≡_, refl, ap}
 use Prim.Native.Nat.{ℕ, zero, suc}
 use Rattle.x691.specs.Encoding.{width, highest, count}
 use Rattle.atn.specs.Format.{Alts, none-left, alternativesOf}
-use Rattle.cursor.specs.Numbers.{rowsThen}
+use Rattle.ranged_numbers.specs.Numbers.{rowsThen}
 use Rattle.quantities.specs.Readers.{indexWidth}
 
 same-count : (t u k n : ℕ) → count (alternativesOf (rowsThen t k n none-left)) ≡ count (alternativesOf (rowsThen u k n none-left))

@@ -8,7 +8,7 @@ use Rattle.atn.specs.Messages as message
 use Rattle.atn.specs.Tags as tag
 use Rattle.cursor.specs.declared.place.Cursor.{Cursor}
 use Rattle.cursor.specs.Place.{Takes}
-use Rattle.cursor.specs.Numbers.{rowsThen}
+use Rattle.ranged_numbers.specs.Numbers.{rowsThen}
 use Rattle.quantities.specs.declared.QuantityAt.{QuantityAt}
 use Rattle.quantities.specs.Records.{quantityRecs}
 

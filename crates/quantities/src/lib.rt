@@ -3,14 +3,14 @@ ghost use mathlib.Core.Path.{_≡_};
 ghost use Prim.Native.Nat.{_+_, _≤_};
 ghost use Rattle.quantities.specs.Readers.{Quantities, indexWidth};
 ghost use Rattle.quantities.specs.Readers.{Speeds, Levels, Degrees};
-use cursor::numbers::ranged;
 use cursor::place::Cursor;
 use cursor::place::bits;
 use cursor::place::stop;
-use cursor::ranges::DEGREES_0;
-use cursor::ranges::LEVEL_0;
-use cursor::ranges::SPEED_0;
-use cursor::ranges::range_at;
+use field_ranges::table::DEGREES_0;
+use field_ranges::table::LEVEL_0;
+use field_ranges::table::SPEED_0;
+use field_ranges::table::range_at;
+use ranged_numbers::ranged;
 
 pub struct Quantity {
     pub kind: u64,

@@ -2,10 +2,10 @@
 ghost use Prim.Native.Nat.{_+_, _<_, _^_};
 ghost use Rattle.atn.specs.Messages.{ia5 as airport, runway, procedure};
 ghost use Rattle.optional_parts.specs.Parts.{Optional};
+use character_strings::ia5;
 use codes_runways::read_runway;
 use cursor::place::Cursor;
-use cursor::ranges::AIRPORT_SIZE;
-use cursor::texts::ia5;
+use field_ranges::table::AIRPORT_SIZE;
 use named_places::read_procedure;
 use runs::At;
 use tell::tell_text;

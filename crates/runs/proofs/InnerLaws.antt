@@ -15,11 +15,11 @@ use Rattle.atn.proofs.Marks.{or-assoc, or-nil, or-swap}
 use Rattle.atn.proofs.Shift.{placeless, moved, moved-close, shift}
 use Rattle.per.proofs.Laws.{bitOf-part}
 use Rattle.cursor.specs.declared.place.Cursor.{Cursor}
-use Rattle.cursor.specs.declared.lengths.Measured.{Measured}
+use Rattle.length_determinants.specs.declared.Measured.{Measured}
 use Rattle.cursor.specs.Place.{number, put, Inside, Pulled, stuck, short, got, Led, Reads}
 use Rattle.cursor.specs.Place as place
-use Rattle.cursor.specs.Lengths.{Measures, Passes}
-use Rattle.cursor.proofs.LengthLaws.{measures-inside}
+use Rattle.length_determinants.specs.Lengths.{Measures, Passes}
+use Rattle.length_determinants.proofs.LengthLaws.{measures-inside}
 use Rattle.records.specs.Told.{Told}
 use Rattle.records.proofs.Telling.{told-none, told-within}
 use Rattle.runs.specs.declared.At.{At}

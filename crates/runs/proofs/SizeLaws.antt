@@ -13,10 +13,10 @@ use Rattle.atn.proofs.Reach.{split}
 use Rattle.atn.proofs.Steps.{pull-go, pull-no}
 use Rattle.cursor.specs.declared.place.Cursor.{Cursor}
 use Rattle.cursor.specs.declared.place.Got.{Got}
-use Rattle.cursor.specs.Numbers.{lowest, highest}
+use Rattle.field_ranges.specs.Ends.{lowest, highest}
 use Rattle.cursor.specs.Place.{number, put, Inside, Led}
 use Rattle.cursor.specs.Place as place
-use Rattle.cursor.specs.Texts.{Sized}
+use Rattle.character_strings.specs.Texts.{Sized}
 use Rattle.cursor.proofs.Laws.{reads-ok, marked-nil}
 use Rattle.runs.specs.declared.At.{At}
 use Rattle.runs.specs.Runs.{Ran, stayed, went, failed, Runs}

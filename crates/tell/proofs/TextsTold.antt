@@ -8,9 +8,9 @@ use Rattle.x691.specs.Bits.{bitOf}
 use Rattle.atn.specs.Reading.{pack, coded, units}
 use Rattle.records.specs.Told.{Told}
 use Rattle.records.proofs.Telling.{told-within}
-use Rattle.cursor.specs.declared.texts.Text.{Text}
-use Rattle.cursor.specs.Texts.{textRecs, channelRecs}
-use Rattle.cursor.proofs.TextLaws.{coded-nil}
+use Rattle.character_strings.specs.declared.Text.{Text}
+use Rattle.character_strings.specs.Texts.{textRecs, channelRecs}
+use Rattle.character_strings.proofs.TextLaws.{coded-nil}
 use Rattle.tell.specs.declared.characters.Run.{Run}
 use Rattle.tell.specs.Characters.{from}
 

@@ -1,10 +1,10 @@
 // Texts told: their characters are read where they stand in the frame, and put into the lent words eight to a record.
 ghost use Prim.Native.Nat.{_<_, _≤_, _^_};
-ghost use Rattle.cursor.specs.Texts.{textRecs, channelRecs, InFrame};
+ghost use Rattle.character_strings.specs.Texts.{textRecs, channelRecs, InFrame};
 ghost use Rattle.records.specs.Told.{Told};
+use character_strings::Text;
 use characters::Run;
 use characters::tell_run;
-use cursor::texts::Text;
 
 mod characters; // characters.rt: characters by where they stand, whatever their alphabet
 

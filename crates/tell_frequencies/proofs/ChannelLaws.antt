@@ -5,7 +5,7 @@ use native.Mathlib.Omega.{arith}
 use Rattle.atn.specs.Reading.{rec}
 use Rattle.records.specs.Told.{Told}
 use Rattle.records.proofs.Telling.{told-within}
-use Rattle.cursor.specs.Texts.{channelRecs}
+use Rattle.character_strings.specs.Texts.{channelRecs}
 use Rattle.frequencies.specs.declared.Frequency.{Frequency}
 use Rattle.frequencies.specs.Records.{frequencyRecs}
 use Rattle.frequencies.proofs.FrequencyLaws.{number-recs, channel-recs}

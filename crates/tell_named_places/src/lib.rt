@@ -1,10 +1,10 @@
 // The records of named places, published ones and procedures, put into the lent words behind the first n. A text is in the frame s.
 ghost use Prim.Native.Nat.{_<_, _^_};
-ghost use Rattle.cursor.specs.Texts.{textRecs};
+ghost use Rattle.character_strings.specs.Texts.{textRecs};
 ghost use Rattle.records.specs.Told.{Told};
 ghost use Rattle.angles.specs.Angles.{unlessAbsent};
 ghost use Rattle.named_places.specs.Names.{Held, namedRecs, publishedRecs, procedureRecs};
-use cursor::texts::Text;
+use character_strings::Text;
 use named_places::Named;
 use named_places::Procedure;
 use named_places::Published;

@@ -3,8 +3,8 @@ ghost use Prim.Native.Nat.{_≤_};
 ghost use lib.ListN.{length};
 use super::line::print;
 use super::line::start;
-use cursor::lengths::length;
 use cursor::place::Got;
+use length_determinants::length;
 
 fn case(frame: &[u8])
     requires { ⌜ length (now frame) ≤ 8192 ⌝ }

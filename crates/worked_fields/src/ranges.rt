@@ -1,13 +1,13 @@
 // Numbers of a range. The bits behind the number are 0.
 ghost use Prim.Native.Nat.{_≤_};
 ghost use lib.ListN.{length};
-ghost use Rattle.cursor.specs.Ranges.{Listed};
+ghost use Rattle.field_ranges.specs.Ranges.{Listed};
 use super::line::print;
 use super::line::start;
-use cursor::numbers::ranged;
-use cursor::ranges::LEVEL_0;
-use cursor::ranges::Range;
-use cursor::ranges::YEAR;
+use field_ranges::table::LEVEL_0;
+use field_ranges::table::Range;
+use field_ranges::table::YEAR;
+use ranged_numbers::ranged;
 
 fn case(kind: &[u8], frame: &[u8], range: Range)
     requires { ⌜ (length (now frame) ≤ 8192) × Listed range ⌝ }

@@ -3,9 +3,9 @@ ghost use Prim.Native.Nat.{_≤_};
 ghost use lib.ListN.{length};
 use super::line::print;
 use super::line::start;
-use cursor::ranges::AIRPORT_SIZE;
-use cursor::ranges::ELEMENTS;
-use cursor::texts::size;
+use character_strings::size;
+use field_ranges::table::AIRPORT_SIZE;
+use field_ranges::table::ELEMENTS;
 
 fn airport(frame: &[u8])
     requires { ⌜ length (now frame) ≤ 8192 ⌝ }

@@ -3,7 +3,7 @@ ghost use Prim.Native.Nat.{_≤_};
 ghost use lib.ListN.{length};
 use super::line::print;
 use super::line::start;
-use cursor::lengths::small;
+use length_determinants::small;
 
 fn case(frame: &[u8])
     requires { ⌜ length (now frame) ≤ 8192 ⌝ }

@@ -1,5 +1,5 @@
 use mathlib.Core.Path.{refl}
-use Rattle.cursor.specs.Numbers.{highest}
+use Rattle.field_ranges.specs.Ends.{highest}
 use Rattle.acse_reasons.proofs.FormatLaws.{keeps-root, keeps-unread}
 use Rattle.acse_bodies.proofs.SequenceLaws.{keeps-first, keeps-both}
 use Rattle.acse_bodies.proofs.BodyLaws.{keeps-alone}

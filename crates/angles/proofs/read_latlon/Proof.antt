@@ -1,6 +1,6 @@
 use mathlib.Core.Path.{refl}
 use borrow.Author.Needs.{needs}
-use Rattle.cursor.specs.Numbers.{lowest, highest}
+use Rattle.field_ranges.specs.Ends.{lowest, highest}
 use Rattle.angles.specs.Angles.{pairRecs}
 use Rattle.angles.proofs.AngleLaws.{pair-reads}
 use Rattle.angles.proofs.read_latlon.Statement.{statement}

@@ -1,5 +1,5 @@
 use native.Mathlib.Omega.{arith}
-use Rattle.cursor.specs.Numbers.{lowest, highest}
+use Rattle.field_ranges.specs.Ends.{lowest, highest}
 use Rattle.cm_parts.proofs.DoesLaws.{does-length}
 use Rattle.cm_logon.proofs.LogonLaws.{request-does}
 use borrow.Author.Needs.{needs}

@@ -4,7 +4,7 @@ use Rattle.atn.specs.Reading.{readChoice}
 use Rattle.atn.specs.Format.{num}
 use Rattle.atn.specs.Messages.{cmLogonRequest, cmLogonResponse, cmAbort}
 use Rattle.atn.specs.Tags as tag
-use Rattle.cursor.specs.Numbers.{lowest, highest}
+use Rattle.field_ranges.specs.Ends.{lowest, highest}
 use Rattle.cm_pdus.proofs.PduLaws.{does-alternative, does-lacking, does-unlisted, ground-response, ground-unlisted}
 use borrow.Author.Needs.{needs}
 use Rattle.cm_pdus.proofs.ground_message.Statement.{statement}

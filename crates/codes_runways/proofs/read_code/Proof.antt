@@ -1,5 +1,5 @@
 use borrow.Author.Needs.{needs}
-use Rattle.cursor.specs.Numbers.{lowest, highest}
+use Rattle.field_ranges.specs.Ends.{lowest, highest}
 use Rattle.cursor.proofs.FormatLaws.{times-none, times-more, takes-times}
 use Rattle.codes_runways.proofs.read_code.Statement.{statement}
 use Rattle.codes_runways.proofs.read_code.Tie as tie

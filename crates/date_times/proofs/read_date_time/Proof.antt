@@ -1,7 +1,7 @@
 use mathlib.Core.Path.{refl}
 use borrow.Author.Needs.{needs}
 use Rattle.atn.specs.Reading.{flags}
-use Rattle.cursor.specs.Numbers.{lowest, highest}
+use Rattle.field_ranges.specs.Ends.{lowest, highest}
 use Rattle.cursor.proofs.FormatLaws.{allRead, takes-plain, fields-must, fields-last}
 use Rattle.date_times.proofs.read_date_time.Statement.{statement}
 use Rattle.date_times.proofs.read_date_time.Tie as tie

@@ -1,7 +1,7 @@
 use mathlib.Core.Path.{refl, _∙_}
 use borrow.Author.Needs.{needs}
 use Rattle.atn.specs.Reading.{mark}
-use Rattle.cursor.proofs.NumberLaws.{lowest-of}
+use Rattle.field_ranges.proofs.RowLaws.{lowest-of}
 use Rattle.cursor.proofs.FormatLaws.{takes-null, takes-noted, takes-root, takes-extended}
 use Rattle.enumerations.proofs.read_reason.Statement.{statement}
 use Rattle.enumerations.proofs.read_reason.Tie as tie

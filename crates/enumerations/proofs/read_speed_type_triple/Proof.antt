@@ -1,5 +1,5 @@
 use borrow.Author.Needs.{needs}
-use Rattle.cursor.specs.Numbers.{highest}
+use Rattle.field_ranges.specs.Ends.{highest}
 use Rattle.cursor.proofs.FormatLaws.{times-none, times-more, takes-times}
 use Rattle.enumerations.proofs.read_speed_type_triple.Statement.{statement}
 use Rattle.enumerations.proofs.read_speed_type_triple.Tie as tie

@@ -1,5 +1,5 @@
 use borrow.Author.Needs.{needs}
-use Rattle.cursor.specs.Numbers.{lowest, highest}
+use Rattle.field_ranges.specs.Ends.{lowest, highest}
 use Rattle.named_places.proofs.NameLaws.{held-text}
 use Rattle.legs.specs.Legs.{HeldLeg}
 use Rattle.legs.proofs.LegLaws.{leg-place, leg-coordinates, leg-between, leg-ranging, leg-designator, leg-unlisted}

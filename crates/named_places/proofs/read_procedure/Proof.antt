@@ -1,7 +1,7 @@
 use mathlib.Core.Path.{refl}
 use native.Mathlib.Omega.{arith}
 use borrow.Author.Needs.{needs}
-use Rattle.cursor.specs.Numbers.{lowest, highest}
+use Rattle.field_ranges.specs.Ends.{lowest, highest}
 use Rattle.cursor.proofs.FormatLaws.{maybe-none, maybe-some}
 use Rattle.named_places.specs.Names.{procedureRecs}
 use Rattle.named_places.proofs.NameLaws.{held-text, held-none, takes-two-then-maybe}

@@ -1,6 +1,6 @@
 use borrow.Author.Needs.{needs}
 use Rattle.atn.specs.Messages as message
-use Rattle.cursor.specs.Numbers.{lowest, highest}
+use Rattle.field_ranges.specs.Ends.{lowest, highest}
 use Rattle.named_places.specs.Names.{publishedRecs}
 use Rattle.named_places.proofs.NameLaws.{takes-first, takes-second}
 use Rattle.named_places.proofs.read_published.Statement.{statement}

@@ -1,5 +1,5 @@
 use borrow.Author.Needs.{needs}
-use Rattle.cursor.specs.Numbers.{lowest, highest}
+use Rattle.field_ranges.specs.Ends.{lowest, highest}
 use Rattle.positions.specs.Positions.{departureRecs}
 use Rattle.named_places.proofs.NameLaws.{held-text}
 use Rattle.positions.proofs.UnreadLaws.{takes-unread}

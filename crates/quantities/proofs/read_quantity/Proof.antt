@@ -3,7 +3,7 @@ use native.Mathlib.Omega.{arith}
 use Rattle.atn.specs.Format.{none-left}
 use Rattle.quantities.specs.Readers.{indexWidth}
 use Rattle.quantities.proofs.Widths.{index-width}
-use Rattle.cursor.proofs.ChoiceLaws.{takes-row, takes-no-row}
+use Rattle.ranged_numbers.proofs.ChoiceLaws.{takes-row, takes-no-row}
 use Rattle.quantities.proofs.read_quantity.Statement.{statement}
 use Rattle.quantities.proofs.read_quantity.Tie as tie
 

@@ -2,7 +2,7 @@ use mathlib.Core.Path.{refl}
 use native.Mathlib.Omega.{arith}
 use Rattle.x691.specs.Encoding.{width, widthIn, count}
 use Rattle.x691.specs.Encoding as encoding
-use Rattle.cursor.specs.Numbers.{lowest, highest}
+use Rattle.field_ranges.specs.Ends.{lowest, highest}
 use Rattle.quantities.specs.Readers.{indexWidth}
 use Rattle.quantities.proofs.read_speed.Statement.{statement}
 use Rattle.quantities.proofs.read_speed.Tie as tie

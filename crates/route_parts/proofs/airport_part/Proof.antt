@@ -1,6 +1,6 @@
 use borrow.Author.Needs.{needs}
 use native.Mathlib.Omega.{arith}
-use Rattle.cursor.specs.Numbers.{lowest, highest}
+use Rattle.field_ranges.specs.Ends.{lowest, highest}
 use Rattle.records.proofs.Telling.{told-length}
 use Rattle.optional_parts.proofs.PartLaws.{optional-none, optional-untold, optional-told}
 use Rattle.route_parts.proofs.airport_part.Statement.{statement}

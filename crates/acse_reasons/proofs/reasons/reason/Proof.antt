@@ -1,6 +1,6 @@
 use mathlib.Core.Path.{refl, _∙_}
-use Rattle.cursor.specs.Numbers.{highest}
-use Rattle.cursor.proofs.NumberLaws.{lowest-of}
+use Rattle.field_ranges.specs.Ends.{highest}
+use Rattle.field_ranges.proofs.RowLaws.{lowest-of}
 use Rattle.acse_reasons.proofs.FormatLaws.{keeps-root, keeps-extended, keeps-number}
 use borrow.Author.Needs.{needs}
 use Rattle.acse_reasons.proofs.reasons.reason.Statement.{statement}

@@ -1,4 +1,4 @@
-use Rattle.cursor.specs.Texts.{textRecs}
+use Rattle.character_strings.specs.Texts.{textRecs}
 use borrow.Author.Needs.{needs}
 use Rattle.cm_parts.proofs.parts.letters.Statement.{statement}
 use Rattle.cm_parts.proofs.parts.letters.Tie as tie

@@ -1,0 +1,2 @@
+pub mod WidthRule
+pub mod RowLaws

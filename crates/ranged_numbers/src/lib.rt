@@ -1,0 +1,42 @@
+// Numbers of a range, whose highest is not tested, and names, which are.
+ghost use mathlib.Core.Path.{_≡_};
+ghost use Rattle.field_ranges.specs.Ranges.{Listed};
+ghost use Rattle.ranged_numbers.specs.Numbers.{Ranged, Named};
+use cursor::place::Cursor;
+use cursor::place::Got;
+use cursor::place::bits;
+use cursor::place::mark;
+use cursor::place::stop;
+use field_ranges::table::Range;
+
+// A number of the range. Above the range it is told all the same, with mark 1.
+pub fn ranged(s: &[u8], c: Cursor, range: Range) -> Got
+    requires { ⌜ Listed range ⌝ }
+    ensures { λ r. ⌜ Ranged (range .row) (now (s .entry)) c r ⌝ }
+{
+    let top = std::num::wrapping_sub_u64(range.hi, range.lo);
+    let g = bits(s, c, range.width);
+    let v = std::num::wrapping_add_u64(range.lo, g.v);
+    let d = g.c;
+    if g.v <= top {
+        return Got { v: v, c: d };
+    }
+    let m = mark(d, 1);
+    Got { v: v, c: m }
+}
+
+// A name of the range, which begins at 0. Above it there is no name: badly formed, with mark 1.
+pub fn named(s: &[u8], c: Cursor, range: Range) -> Got
+    requires { ⌜ Listed range × (range .lo ≡ 0) ⌝ }
+    ensures { λ r. ⌜ Named (range .row) (now (s .entry)) c r ⌝ }
+{
+    let top = std::num::wrapping_sub_u64(range.hi, range.lo);
+    let g = bits(s, c, range.width);
+    let v = g.v;
+    let d = g.c;
+    if v <= top {
+        return Got { v: v, c: d };
+    }
+    let m = stop(d, 5, 1);
+    Got { v: v, c: m }
+}
