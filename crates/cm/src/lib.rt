@@ -1,7 +1,8 @@
-// Context management: `parse_cm_ground` and `parse_cm_logon`. A message is told as it is read, first without words, so that a refusal leaves them all and the number of records is known before any is written.
+// Context management: `parse_cm_ground` and `parse_cm_logon`. A message is told as it is read, into spare words first, so that a refusal leaves the lent ones and the number of records is known before any is written.
+ghost use mathlib.Core.Bool.{false};
 ghost use mathlib.Core.Path.{_≡_};
 ghost use Rattle.atn.specs.Entries.{parse-cm-ground, parse-cm-logon};
-ghost use Rattle.answers.specs.declared.Answer.the-variants.{Refused};
+ghost use Rattle.answers.specs.declared.Answer.the-variants.{Accepted, Refused};
 ghost use Rattle.answers.specs.Says.{Says};
 ghost use Rattle.cm.specs.Parsed.{parsed};
 use answers::Answer;
@@ -9,9 +10,13 @@ use cm_parts::parts::Step;
 use cm_pdus::pdu;
 use cursor::place::Cursor;
 use records::space::words_for;
+use spare_words::copy;
 
 // The bytes of the longest frame.
 const LONGEST: usize = 8192;
+
+// The words of the first reading: enough for the records of most messages.
+const SPARE: usize = 128;
 
 pub fn parse_cm_ground(frame: &[u8], words: &mut [u64]) -> Answer
     ensures { λ r. ⌜ Says r (now (words .exit)) (parse-cm-ground (now (frame .entry)) (now (words .entry))) ⌝ }
@@ -39,21 +44,32 @@ fn parse(frame: &[u8], words: &mut [u64], ground: bool) -> Answer
         marks: 0,
     };
     let first = Step { c: start, n: 0 };
-    let dry = pdu(&mut words[..0], first, frame, ground);
-    let c = dry.c;
+    let mut spare = [0u64; SPARE];
+    let tried = pdu(&mut spare, first, frame, ground);
+    let c = tried.c;
     if c.why != 0 {
         return refused(c.why, c.at, 0);
     }
-    let need = words_for(dry.n);
+    let need = words_for(tried.n);
     if words.len() < need {
         return refused(7, c.at, need);
     }
+    if need <= SPARE {
+        copy(&spare[..need], words);
+        return accepted(c.at, c.marks, tried.n);
+    }
     pdu(words, first, frame, ground);
+    accepted(c.at, c.marks, tried.n)
+}
+
+fn accepted(reach: usize, marks: u64, count: usize) -> Answer
+    ensures { λ r. ⌜ r ≡ Accepted false reach marks count ⌝ }
+{
     Answer::Accepted {
         cut: false,
-        reach: c.at,
-        marks: c.marks,
-        count: dry.n,
+        reach: reach,
+        marks: marks,
+        count: count,
     }
 }
 

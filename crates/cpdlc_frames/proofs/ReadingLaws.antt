@@ -1,33 +1,25 @@
 -- From the cursor behind a frame's message to what the reading says of the frame.
 use mathlib.Core.Path.{_≡_, refl, sym, ap, _∙_}
 use mathlib.Core.Bool.{Bool, true, false}
-use mathlib.Core.List.{List, [], _∷_, _++_}
+use mathlib.Core.List.{List}
 use Prim.Native.Nat.{ℕ, zero, suc, _*_, _≤_}
 use native.Mathlib.Omega.{arith}
-use lib.ListN.{length, take, drop}
-use lib.Seq.{take-at}
+use lib.ListN.{length}
 use Rattle.x691.specs.Bits.{bitOf}
 use Rattle.atn.specs.Format.{Why, out, bad, lack, quit}
-use Rattle.atn.specs.Reading.{Rec, rec, Ans, ok, past, stop, or, read}
-use Rattle.atn.specs.Entries.{Reply, accept, ranOut, badly, unsupplied, stopped, reply, readFrame, pdus, flat, need}
+use Rattle.atn.specs.Reading.{Rec, Ans, ok, past, stop, or, read}
+use Rattle.atn.specs.Entries.{Reply, accept, ranOut, badly, unsupplied, stopped, reply, readFrame, pdus}
 use Rattle.atn.proofs.Tame.{keepsStop, tame, tameFields, tameChoice}
 use Rattle.atn.proofs.Calm.{isQuit, givesUp, calm, calm-read}
 use Rattle.cursor.specs.declared.place.Cursor.{Cursor}
 use Rattle.cursor.specs.Place.{number, Inside}
 use Rattle.records.proofs.Passes.{counted}
-use Rattle.records.proofs.Putting.{puts-fits}
-use Rattle.records.proofs.Telling.{told-length}
+use Rattle.spare_words.proofs.KeptLaws.{told-kept}
 use Rattle.runs.specs.declared.At.{At}
 use Rattle.runs.specs.Runs.{given, Ran, stayed, went, passed, gaveUp, failed, Runs}
 use Rattle.pdus.specs.Pdus.{pduAt}
 use Rattle.verdicts.specs.declared.Verdict.{Verdict}
 use Rattle.verdicts.specs.Verdicts.{verdictOf, Tried, Tells, Kept}
-
--- the words of records are as many as they need
-pub flat-need : (R : List Rec) → length (flat R) ≡ need R
-unfolding flat need
-flat-need [] = refl
-flat-need (rec t n v u ∷ R) = ap (λ (k : ℕ). suc (suc (suc (suc k)))) (flat-need R) ∙ omega arith
 
 pdus-calm : (d : ℕ) (down up : List ℕ) → calm (pdus d down up) ≡ true
 unfolding pdus tame tameFields tameChoice keepsStop
@@ -106,13 +98,7 @@ module _ (d : ℕ) (down up s : List ℕ) where
     run = rw from at runs
 
     keeps : Kept frame k
-    keeps =
-        record {
-          kept = λ {R} t h.
-              let told = rw (ran-tells (run .ran (begin-inside s)) t) at (run .told) in
-              let fit : need R ≤ length w = rw (told-length told) at h in
-              rw (told .words, puts-fits w R fit) (take-at (flat R) (drop (need R) w) (need R) (flat-need R));
-        }
+    keeps = record { kept = λ t. told-kept (rw (ran-tells (run .ran (begin-inside s)) t) at (run .told)) }
 
     abbrev counting : ℕ → ℕ → Verdict
     counting why n = record { why = why; reach = x .c .at; marks = x .c .marks; count = n }

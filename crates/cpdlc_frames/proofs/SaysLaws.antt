@@ -1,27 +1,25 @@
 -- What is answered from a verdict.
-use mathlib.Core.Path.{_≡_, refl, sym, ap, _∙_}
+use mathlib.Core.Path.{_≡_, refl}
 use mathlib.Core.Bool.{Bool, true, false}
 use mathlib.Core.List.{List, _++_}
-use Prim.Native.Nat.{ℕ, _+_, _≤_, _<_}
+use Prim.Native.Nat.{ℕ, _≤_, _<_}
 use native.Mathlib.Omega.{arith}
-use lib.ListN.{length, take, drop, length-append, length-drop}
-use borrow.Author.Tests.{le-leb}
+use lib.ListN.{length, take, drop}
 use Rattle.atn.specs.Reading.{Rec}
-use Rattle.atn.specs.Entries.{Reply, accept, ranOut, badly, unsupplied, readFrame, pdus, flat, settle}
-use Rattle.atn.specs.Entries as entries
+use Rattle.atn.specs.Entries.{Reply, accept, ranOut, badly, unsupplied, readFrame, pdus, settle}
 use Rattle.answers.specs.declared.Answer.{Answer}
 use Rattle.answers.specs.declared.Answer.the-variants.{Accepted, Refused}
 use Rattle.answers.specs.Says.{Says}
 use Rattle.cursor.specs.declared.place.Cursor.{Cursor}
 use Rattle.records.specs.Puts.{space}
-use Rattle.records.proofs.Sizes.{need-space}
 use Rattle.records.proofs.Passes.{settle-out, settle-bad, settle-lack, settle-full, settle-fits}
+use Rattle.spare_words.proofs.KeptLaws.{settle-kept}
 use Rattle.runs.specs.declared.At.{At}
 use Rattle.runs.specs.Runs.{Runs}
 use Rattle.pdus.specs.Pdus.{pduAt}
 use Rattle.verdicts.specs.declared.Verdict.{Verdict}
 use Rattle.verdicts.specs.Verdicts.{verdictOf, Tells, Kept, Follows}
-use Rattle.cpdlc_frames.proofs.ReadingLaws.{begin, begin-inside, ran-tells, flat-need}
+use Rattle.cpdlc_frames.proofs.ReadingLaws.{begin, begin-inside, ran-tells}
 
 module _ {w : List ℕ} (cut : Bool) (v : Verdict) {need : ℕ} (needs : need ≡ space (v .count)) where
   -- the records do not fit
@@ -36,18 +34,9 @@ module _ {w : List ℕ} (cut : Bool) (v : Verdict) {need : ℕ} (needs : need �
       record { is = settle-fits refl refl e needs l (rw (ran-tells d down up s (run .ran (begin-inside s)) t) at (run .told)) }
 
 -- they fit, and were kept
-pub says-kept : (w : List ℕ) (cut : Bool) (v : Verdict) {need : ℕ} → need ≡ space (v .count) → {r : Reply} {k w′ : List ℕ} → need ≤ length w → need ≤ length k → w′ ≡ take need k ++ drop (length (take need k)) w → Kept r k → (R : List Rec) → v .count ≡ length R → Tells R r
+pub says-kept : (w k : List ℕ) (cut : Bool) (v : Verdict) {need : ℕ} → need ≡ space (v .count) → {r : Reply} {w′ : List ℕ} → need ≤ length w → need ≤ length k → w′ ≡ take need k ++ drop (length (take need k)) w → Kept r k → (R : List Rec) → v .count ≡ length R → Tells R r
     → Says (Accepted cut (v .reach) (v .marks) (v .count)) w′ (settle (accept cut (v .reach) (v .marks) R) w)
-unfolding settle
-says-kept w cut v {need} needs {k = k} {w′ = w′} l m q h R e t =
-    let n : need ≡ entries.need R = needs ∙ ap space e ∙ sym (need-space R) in
-    let y : take need k ≡ flat R = rw n (h .kept t (rw n at m)) in
-    let z : w′ ≡ flat R ++ drop (entries.need R) w = q ∙ rw (y, flat-need R) in
-    record { is = rw (z, le-leb (entries.need R) (length w) (rw n at l), e) }
-
--- what was copied is as long as it was
-pub copied-length : (f w : List ℕ) {w′ : List ℕ} → w′ ≡ f ++ drop (length f) w → length f ≤ length w → length w′ ≡ length w
-copied-length f w e h = ap (λ (l : List ℕ). length l) e ∙ length-append f (drop (length f) w) ∙ ap (λ (n : ℕ). length f + n) (length-drop (length f) w) ∙ omega arith
+says-kept w k cut v needs l f q h R e t = record { is = settle-kept refl e needs w k l f (h .kept t) q }
 
 module _ {v : Verdict} {w : List ℕ} (u : Reply) (h : v ≡ verdictOf u) where
   pub says-refused : (v .why ≡ 0 → ⊥) → (v .why ≡ 7 → ⊥) → Says (Refused (v .why) (v .reach) 0) w (settle u w)

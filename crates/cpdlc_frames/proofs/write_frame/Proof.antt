@@ -5,7 +5,8 @@ use lib.Seq.{length-take-le}
 use native.Mathlib.Omega.{arith}
 use borrow.Author.Needs.{needs}
 use Rattle.records.proofs.Telling.{told-length}
-use Rattle.cpdlc_frames.proofs.SaysLaws.{says-full, says-kept, says-written, copied-length}
+use Rattle.spare_words.proofs.KeptLaws.{copied-length}
+use Rattle.cpdlc_frames.proofs.SaysLaws.{says-full, says-kept, says-written}
 use Rattle.cpdlc_frames.proofs.write_frame.Statement.{statement}
 use Rattle.cpdlc_frames.proofs.write_frame.Tie as tie
 
@@ -22,7 +23,7 @@ same-length : tie.Need-same-length
 same-length c = copied-length (take (c .before .before .before .before .before .before .before .words-for .result) (c .before .before .before .before .before .before .before .before .before .before .before .before .before .args .spare .now)) (c .before .before .before .before .before .before .before .before .before .before .before .before .before .args .words .now) (c .before .before .copy .ensures) (subst (λ (n : ℕ). n ≤ length (c .before .before .before .before .before .before .before .before .before .before .before .before .before .args .words .now)) (sym (length-take-le (c .before .before .before .before .before .before .before .words-for .result) (c .before .before .before .before .before .before .before .before .before .before .before .before .before .args .spare .now) (c .before .before .before .before .before .if2 .taken))) (c .before .before .before .before .before .before .if1 .left))
 
 returns-2 : tie.Need-returns-2
-returns-2 c = λ k R e t. says-kept (c .before .before .before .before .before .before .before .before .before .before .before .before .before .args .words .now) (c .before .before .before .before .before .before .before .before .before .before .before .before .before .args .cut) (c .before .before .before .before .before .before .before .before .before .before .before .before .before .args .v) (c .before .before .before .before .before .before .before .words-for .ensures) (c .before .before .before .before .before .before .if1 .left) (c .before .before .before .before .before .if2 .taken) (c .before .before .copy .ensures) k R e t
+returns-2 c = λ k R e t. says-kept (c .before .before .before .before .before .before .before .before .before .before .before .before .before .args .words .now) (c .before .before .before .before .before .before .before .before .before .before .before .before .before .args .spare .now) (c .before .before .before .before .before .before .before .before .before .before .before .before .before .args .cut) (c .before .before .before .before .before .before .before .before .before .before .before .before .before .args .v) (c .before .before .before .before .before .before .before .words-for .ensures) (c .before .before .before .before .before .before .if1 .left) (c .before .before .before .before .before .if2 .taken) (c .before .before .copy .ensures) k R e t
 
 read-pdu-requires : tie.Need-read-pdu-requires
 read-pdu-requires c κs = (c .before .before .before .before .before .before .before .before .before .before .pre .0, omega arith, c .before .before .before .before .before .before .before .before .before .before .pre .1, c .before .before .before .before .before .before .before .before .before .before .pre .2, c .before .before .before .before .before .before .before .before .before .before .pre .3, c .before .before .before .before .before .before .before .before .before .before .pre .4, c .before .before .before .before .before .before .before .before .before .before .pre .5, rw (c .start .ensures) refl)
