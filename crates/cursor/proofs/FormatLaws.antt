@@ -171,9 +171,6 @@ takes-opened {fs} {s} {c} {d} {T} n g f a o h = record { took = λ x. record { l
         (sym (fetch-go (bitOf s) (c .end) (c .at) (flags fs) _ _ (omega arith) ∙ rw (read-unmarked fs (bitOf s) (c .at) a, f) (then-nil (c .at + n) (λ p. readFields fs x (bitOf s) (c .end) (c .at) p))))
         (r .led (rw q (l, i .1)))
 
-pub takes-seq : {fs : Flds} {s : List ℕ} {c d : Cursor} {T : ℕ → List Rec} (n : ℕ) (g : Got) → flags fs ≡ n → allRead fs ≡ true → Opens s c n g → Fields fs s (g .c) d (c .at) T → Takes (seq fs) s c d T
-takes-seq n g f a o h = takes-opened n g f a o (λ _. h)
-
 pub opened-inside : {s : List ℕ} {c : Cursor} {n : ℕ} {g : Got} → Inside s c → Opens s c n g → Inside s (g .c)
 opened-inside {s} {c} {n} {g} i o = go (o .gave i)
   where

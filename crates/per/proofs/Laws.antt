@@ -51,9 +51,6 @@ bitOf-part s a m p h =
     let g : p / 8 < m = omega arith in
     rw (getD-take, getD-drop, e, f)
 
-pub uint-part : (s : List ℕ) (a m p n : ℕ) → p + n ≤ 8 * m → uint (bitOf (take m (drop a s))) p n ≡ uint (bitOf s) (8 * a + p) n
-uint-part s a m p n h = uint-moved _ _ (8 * a) p n (λ i l u. bitOf-part s a m i (omega arith))
-
 -- n bits out of a longer run, behind o others and before r
 pub uint-within : (s : List ℕ) (at o n r : ℕ) → uint (bitOf s) (at + o) n ≡ uint (bitOf s) at (o + n + r) / 2 ^ r % 2 ^ n
 uint-within s at o n r =

@@ -41,10 +41,6 @@ module _ (x : Ctx) {s : List ℕ} {c : Cursor} {n : ℕ} {w : List ℕ} where
   ---------------------------------------------------------------- extension bits
 
   module _ (f k : Fmt) (g : Got) (pulls : Pulls s c 1 g) where
-    pub runs-no-bit : (g .c .why ≡ 0 → ⊥) → Runs 0 (λ u p. read (ext f k) x (bitOf s) u p) s c n w w (record { n = n; c = g .c })
-    unfolding read
-    runs-no-bit h = runs-pull 1 g (forks f k x s) pulls (runs-stayed (λ u p. forks f k x s (g .v) u p) h)
-
     pub runs-root : {b : ℕ} {w′ : List ℕ} {r : At} → g .v ≡ 0 → Runs b (λ u p. read f x (bitOf s) u p) s (g .c) n w w′ r → Runs b (λ u p. read (ext f k) x (bitOf s) u p) s c n w w′ r
     unfolding read
     runs-root z y = runs-pull 1 g (forks f k x s) pulls (runs-clear (λ u q. read f x (bitOf s) u q) (λ u q. then (ok q [] (mark 2)) λ r. read k x (bitOf s) u r) (g .v) z y)

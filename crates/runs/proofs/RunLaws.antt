@@ -33,14 +33,6 @@ given-some : (j : Bool) → given j ≡ 0 → ⊥
 given-some true h = omega arith
 given-some false h = omega arith
 
--- the end of the window stays
-pub ran-end : (k : ℕ → ℕ → Ans) (c d : Cursor) {R : List Rec} → Ran k c d R → d .end ≡ c .end
-ran-end k c d (stayed h q r) = ap (λ (x : Cursor). x .end) q
-ran-end k c d (went p m z a l q) = ap (λ (x : Cursor). x .end) q
-ran-end k c d (passed p m z a l q) = ap (λ (x : Cursor). x .end) q
-ran-end k c d (gaveUp o j t p m z a l q) = ap (λ (x : Cursor). x .end) q
-ran-end k c d (failed w p m S n z a l q) = ap (λ (x : Cursor). x .end) q
-
 -- behind a stop the cursor stays, and nothing is told
 pub ran-stays : (k : ℕ → ℕ → Ans) (c d : Cursor) {R : List Rec} → (c .why ≡ 0 → ⊥) → Ran k c d R → (d ≡ c) × (R ≡ [])
 ran-stays k c d h (stayed g q r) = (q, r)

@@ -76,6 +76,3 @@ more b at (suc n) = rw (add-suc at n, ← (suc-add at n)) (let z : 2 ^ suc n ≡
 
 pub uint-more : (b : ℕ → ℕ) (at n : ℕ) → uint b at (n + 1) ≡ uint b at n * 2 + b (at + n)
 uint-more b at n = rw add-one (more b at n)
-
-pub two-more : (n : ℕ) → 2 ^ (n + 1) ≡ 2 ^ n * 2
-two-more n = rw add-one (omega arith)
