@@ -35,15 +35,15 @@ of-got g = found (g .c .why) (g .c .marks) (g .v)
 
 -- whatever result the contract of the code allows, it is written as a
 abbrev pub Only : Question → Written → Type 0
--- the table of `cursor::ranges`
+-- the table of `field_ranges`
 Only (range lo hi) a = (r : Range) → Listed r → r .lo ≡ lo → r .hi ≡ hi → bits (r .width) ≡ a
--- `cursor::numbers::ranged`
+-- `ranged_numbers::ranged`
 Only (field lo hi r) a = (k : ℕ) (g : Got) → lowest k ≡ lo → highest k ≡ hi → Ranged k (raw-bytes r) (from (raw-bytes r) (raw-place (width (extent lo hi)))) g → of-got g ≡ a
--- `cursor::texts::size`
+-- `character_strings::size`
 Only (count-of lo hi r) a = (k : ℕ) (g : Got) → lowest k ≡ lo → highest k ≡ hi → Sized k (raw-bytes r) (from (raw-bytes r) (raw-place (width (hi - lo)))) g → of-got g ≡ a
--- `cursor::lengths::length`
+-- `length_determinants::length`
 Only (length-of s) a = (l : Measured) → Measures s (from s 0) l → found (l .c .why) (l .c .marks) (l .count) ≡ a
--- `cursor::lengths::small`, behind the mark that its caller makes
+-- `length_determinants::small`, behind the mark that its caller makes
 Only (small-octets cs) a = (g : Got) → Smalls (small-bytes cs) (marked (from (small-bytes cs) 7) 2) g → of-got g ≡ a
 -- the five entries
 Only (frame e s) a = (r : Answer) (w : List ℕ) → Says r w (enters e s lent) → of-answer (answerOf r) ≡ a
