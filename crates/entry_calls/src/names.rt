@@ -1,6 +1,7 @@
 // The entries by name.
 ghost use mathlib.Core.Path.{_≡_};
 ghost use Rattle.entry_calls.specs.Calls.{isEntry, isDirected};
+ghost use Rattle.entry_calls.specs.Names.{Names};
 use check::same;
 
 pub enum Entry {
@@ -12,7 +13,9 @@ pub enum Entry {
     Unknown,
 }
 
-pub fn named(name: &[u8]) -> Entry {
+pub fn named(name: &[u8]) -> Entry
+    ensures { λ r. ⌜ Names (now (name .entry)) r ⌝ }
+{
     if same(name, b"apdu") {
         Entry::Apdu
     } else if same(name, b"pdus") {

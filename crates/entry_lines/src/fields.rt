@@ -1,6 +1,7 @@
 // The parts of a line, a space between two of them.
-ghost use Prim.Native.Nat.{_≤_};
-ghost use lib.ListN.{length};
+ghost use mathlib.Core.Path.{_≡_};
+ghost use Prim.Native.Nat.{_-_, _≤_};
+ghost use lib.ListN.{length, take, drop};
 ghost use Rattle.entry_lines.specs.Fields.{InLine};
 use bytes::scan::find;
 use check::same;
@@ -59,6 +60,7 @@ pub fn octets(text: &[u8], out: &mut [u8]) -> Decoded
 
 pub fn part(line: &[u8], f: Stretch) -> &[u8]
     requires { ⌜ InLine f (length (now line)) ⌝ }
+    ensures { λ r. ⌜ now r ≡ take (f .to - f .from) (drop (f .from) (now (line .entry))) ⌝ }
 {
     let from = f.from;
     let to = f.to;

@@ -10,7 +10,6 @@ use line_output::output::put;
 
 mod fields; // fields.rt: the parts of a line
 mod case; // case.rt: a case
-mod pattern; // pattern.rt: what the lent words hold before a call
 mod said; // said.rt: the answer's line
 
 fn main() {
@@ -130,7 +129,7 @@ fn heard(
     requires { ⌜ output .len ≤ length (now gathered) ⌝ }
     ensures { λ r. ⌜ r .len ≤ length (now (gathered .entry)) ⌝ }
 {
-    pattern::fill(words);
+    word_pattern::fill(words);
     let a = entry_calls::entries::call(entry, direction, down, up, frame, words);
     said::answer(gathered, output, a, words)
 }

@@ -1,13 +1,13 @@
 // The answer's line.
 ghost use Prim.Native.Nat.{_+_, _≤_};
 ghost use lib.ListN.{length};
-use super::pattern::stayed;
 use answers::Answer;
 use line_output::output::Output;
 use line_output::output::put;
 use lines::said::accepted;
 use lines::said::labelled;
 use lines::said::refused;
+use word_pattern::stayed;
 
 pub fn answer(space: &mut [u8], o: Output, a: Answer, words: &[u64]) -> Output
     requires { ⌜ o .len ≤ length (now space) ⌝ }
