@@ -10,13 +10,11 @@ use cm_parts::parts::Step;
 use cm_pdus::pdu;
 use cursor::place::Cursor;
 use records::space::words_for;
+use spare_words::SPARE;
 use spare_words::copy;
 
 // The bytes of the longest frame.
 const LONGEST: usize = 8192;
-
-// The words of the first reading: enough for the records of most messages.
-const SPARE: usize = 128;
 
 pub fn parse_cm_ground(frame: &[u8], words: &mut [u64]) -> Answer
     ensures { λ r. ⌜ Says r (now (words .exit)) (parse-cm-ground (now (frame .entry)) (now (words .entry))) ⌝ }

@@ -7,15 +7,13 @@ use answers::Answer;
 use cpdlc_frames::answer_frame;
 use cpdlc_frames::try_frame;
 use lent_tables::tables_fit;
+use spare_words::SPARE;
 use verdicts::Verdict;
 use verdicts::after_bad;
 use verdicts::after_out;
 
 // The bytes of the longest frame.
 const LONGEST: usize = 8192;
-
-// The words of the first reading: enough for the records of most messages.
-const SPARE: usize = 128;
 
 // A frame of a known direction: 0 is the downlink, 1 the uplink.
 pub fn parse_pdus(frame: &[u8], direction: u64, down: &[u8], up: &[u8], words: &mut [u64]) -> Answer
