@@ -1,10 +1,9 @@
--- The entries that a case can name, and what a case's call gives.
-use mathlib.Core.Bool.{Bool, true, false}
+-- What a case's call gives.
 use mathlib.Core.List.{List}
 use Prim.Native.Nat.{ℕ}
 use Rattle.atn.specs.Entries.{Outcome, refused, parse-pdus, parse-apdu, parse-cm-ground, parse-cm-logon, parse-acse-apdu}
-use Rattle.entry_calls.specs.declared.names.Entry.{Entry}
-use Rattle.entry_calls.specs.declared.names.Entry.the-variants.{Apdu, Pdus, CmGround, CmLogon, Acse, Unknown}
+use Rattle.entry_names.specs.declared.Entry.{Entry}
+use Rattle.entry_names.specs.declared.Entry.the-variants.{Apdu, Pdus, CmGround, CmLogon, Acse, Unknown}
 
 -- entry, direction, tables, frame, words; what is no entry is not called
 abbrev pub outcome : Entry → ℕ → List ℕ → List ℕ → List ℕ → List ℕ → Outcome
@@ -14,19 +13,3 @@ outcome CmGround d down up s w = parse-cm-ground s w
 outcome CmLogon d down up s w = parse-cm-logon s w
 outcome Acse d down up s w = parse-acse-apdu s w
 outcome Unknown d down up s w = (refused 0 0 0, w)
-
-abbrev pub isEntry : Entry → Bool
-isEntry Apdu = true
-isEntry Pdus = true
-isEntry CmGround = true
-isEntry CmLogon = true
-isEntry Acse = true
-isEntry Unknown = false
-
-abbrev pub isDirected : Entry → Bool
-isDirected Apdu = false
-isDirected Pdus = true
-isDirected CmGround = false
-isDirected CmLogon = false
-isDirected Acse = false
-isDirected Unknown = false

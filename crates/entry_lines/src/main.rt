@@ -2,15 +2,11 @@
 ghost use Prim.Native.Nat.{_≤_};
 ghost use lib.ListN.{length};
 ghost use Rattle.line_flow.specs.Flow.{Runs};
-use entry_calls::names::Entry;
+use entry_names::Entry;
 use line_flow::Flow;
 use line_input::input::next;
 use line_output::output::Output;
 use line_output::output::put;
-
-mod fields; // fields.rt: the parts of a line
-mod case; // case.rt: a case
-mod said; // said.rt: the answer's line
 
 fn main() {
     let mut taken = io::large_buffer();
@@ -94,7 +90,7 @@ fn answer(
     requires { ⌜ output .len ≤ length (now gathered) ⌝ }
     ensures { λ r. ⌜ r .len ≤ length (now (gathered .entry)) ⌝ }
 {
-    let c = case::read(line, down, up, frame, words.len());
+    let c = entry_cases::case::read(line, down, up, frame, words.len());
     if !c.good {
         return put(gathered, output, b"no line\n");
     }
@@ -130,6 +126,6 @@ fn heard(
     ensures { λ r. ⌜ r .len ≤ length (now (gathered .entry)) ⌝ }
 {
     word_pattern::fill(words);
-    let a = entry_calls::entries::call(entry, direction, down, up, frame, words);
-    said::answer(gathered, output, a, words)
+    let a = entry_calls::call(entry, direction, down, up, frame, words);
+    entry_answers::answer(gathered, output, a, words)
 }

@@ -3,8 +3,8 @@ use mathlib.Core.Path.{_≡_}
 use Prim.Native.Nat.{_≤_}
 use lib.ListN.{length}
 use borrow.Author.Needs.{needs}
-use Rattle.entry_lines.proofs.said.records.Statement.{statement}
-use Rattle.entry_lines.proofs.said.records.Tie as tie
+use Rattle.entry_answers.proofs.records.Statement.{statement}
+use Rattle.entry_answers.proofs.records.Tie as tie
 
 abbrev Inv-loop : tie.InvT-loop
 Inv-loop space₀ words count o₀ at₀ left₀ space o at left = (length space ≡ length space₀) × (o .len ≤ length space₀) × (at ≤ length words)

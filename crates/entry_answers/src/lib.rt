@@ -1,4 +1,4 @@
-// The answer's line.
+// The line of an entry's answer.
 ghost use Prim.Native.Nat.{_+_, _≤_};
 ghost use lib.ListN.{length};
 use answers::Answer;

@@ -3,8 +3,8 @@ use mathlib.Core.Bool.{Bool, true, false}
 use Prim.Native.Nat.{ℕ}
 use native.Mathlib.Omega.{arith}
 use borrow.Author.Needs.{needs}
-use Rattle.entry_calls.proofs.names.named.Statement.{statement}
-use Rattle.entry_calls.proofs.names.named.Tie as tie
+use Rattle.entry_names.proofs.named.Statement.{statement}
+use Rattle.entry_names.proofs.named.Tie as tie
 
 differ : {t : Bool} → t ≡ true → t ≡ false → ⊥
 differ p q = let z : _≡_ {A = ℕ} 0 1 = cc in omega arith

@@ -1,7 +1,7 @@
 use mathlib.Core.Path.{refl}
 use borrow.Author.Needs.{needs}
-use Rattle.entry_calls.proofs.entries.call.Statement.{statement}
-use Rattle.entry_calls.proofs.entries.call.Tie as tie
+use Rattle.entry_calls.proofs.call.Statement.{statement}
+use Rattle.entry_calls.proofs.call.Tie as tie
 
 returns : tie.Need-returns
 returns c = rw (c .before .before .before .before .enum-told .given .1) (c .before .before .parse-apdu .ensures)

@@ -1,6 +1,6 @@
 -- Where a part of a line stands.
 use Prim.Native.Nat.{ℕ, _≤_}
-use Rattle.entry_lines.specs.declared.fields.Stretch.{Stretch}
+use Rattle.entry_cases.specs.declared.fields.Stretch.{Stretch}
 
 pub record InLine (f : Stretch) (n : ℕ) : Type 0 where
   pub ordered : f .from ≤ f .to

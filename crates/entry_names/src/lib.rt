@@ -1,7 +1,6 @@
-// The entries by name.
+// The five entries by name.
 ghost use mathlib.Core.Path.{_≡_};
-ghost use Rattle.entry_calls.specs.Calls.{isEntry, isDirected};
-ghost use Rattle.entry_calls.specs.Names.{Names};
+ghost use Rattle.entry_names.specs.Names.{Names, isEntry, isDirected};
 use check::same;
 
 pub enum Entry {

@@ -1,6 +1,6 @@
 use borrow.Author.Needs.{needs}
-use Rattle.entry_lines.proofs.case.read.Statement.{statement}
-use Rattle.entry_lines.proofs.case.read.Tie as tie
+use Rattle.entry_cases.proofs.case.read.Statement.{statement}
+use Rattle.entry_cases.proofs.case.read.Tie as tie
 
 part-requires-5 : tie.Need-part-requires-5
 part-requires-5 c κs = c .before .before .before .before .before .before .before .before .before .before .before .before .before .before .before .before .before .before .before .before .before .before .before .field4 .ensures

@@ -1,16 +1,16 @@
 // A case: `ENTRY DIR DOWNTABLE UPTABLE FRAME ROOM`.
 ghost use lib.ListN.{length};
-ghost use Rattle.entry_lines.specs.Cases.{Takes};
+ghost use Rattle.entry_cases.specs.Cases.{Takes};
 use super::fields::field;
 use super::fields::octets;
 use super::fields::part;
 use check::same;
 use decimal::Numeral;
 use decimal::number;
-use entry_calls::names::Entry;
-use entry_calls::names::has_direction;
-use entry_calls::names::is_there;
-use entry_calls::names::named;
+use entry_names::Entry;
+use entry_names::has_direction;
+use entry_names::is_there;
+use entry_names::named;
 
 // What the line says, or that it is no case; how many octets the tables and the frame have, and how many words are lent.
 pub struct Case {

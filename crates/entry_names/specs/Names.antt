@@ -1,9 +1,10 @@
 -- The entries by their names, as the letters of a line have them.
 use mathlib.Core.Path.{_≡_}
+use mathlib.Core.Bool.{Bool, true, false}
 use mathlib.Core.List.{List, [], _∷_}
 use Prim.Native.Nat.{ℕ}
-use Rattle.entry_calls.specs.declared.names.Entry.{Entry}
-use Rattle.entry_calls.specs.declared.names.Entry.the-variants.{Apdu, Pdus, CmGround, CmLogon, Acse, Unknown}
+use Rattle.entry_names.specs.declared.Entry.{Entry}
+use Rattle.entry_names.specs.declared.Entry.the-variants.{Apdu, Pdus, CmGround, CmLogon, Acse, Unknown}
 
 abbrev apdu : List ℕ
 apdu = 97 ∷ 112 ∷ 100 ∷ 117 ∷ []
@@ -28,3 +29,19 @@ Names s CmGround = s ≡ cm-ground
 Names s CmLogon = s ≡ cm-logon
 Names s Acse = s ≡ acse
 Names s Unknown = (s ≡ apdu → ⊥) × (s ≡ pdus → ⊥) × (s ≡ cm-ground → ⊥) × (s ≡ cm-logon → ⊥) × (s ≡ acse → ⊥)
+
+abbrev pub isEntry : Entry → Bool
+isEntry Apdu = true
+isEntry Pdus = true
+isEntry CmGround = true
+isEntry CmLogon = true
+isEntry Acse = true
+isEntry Unknown = false
+
+abbrev pub isDirected : Entry → Bool
+isDirected Apdu = false
+isDirected Pdus = true
+isDirected CmGround = false
+isDirected CmLogon = false
+isDirected Acse = false
+isDirected Unknown = false

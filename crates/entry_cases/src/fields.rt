@@ -2,7 +2,7 @@
 ghost use mathlib.Core.Path.{_≡_};
 ghost use Prim.Native.Nat.{_-_, _≤_};
 ghost use lib.ListN.{length, take, drop};
-ghost use Rattle.entry_lines.specs.Fields.{InLine};
+ghost use Rattle.entry_cases.specs.Fields.{InLine};
 use bytes::scan::find;
 use check::same;
 use hexadecimal::Decoded;
