@@ -36,11 +36,18 @@ pub put-length : (w : List ℕ) (n : ℕ) (r : Rec) → length (put w n r) ≡ l
 unfolding put
 put-length w n r = simp (length-append, fill-length) (sym (length-append (take (space n) w) (drop (space n) w)) ∙ ap length (take-append-drop (space n) w))
 
+-- with room for the record it stands in the place of the words that were there
+pub put-fits : (w : List ℕ) (n : ℕ) (r : Rec) → space n + size ≤ length w → put w n r ≡ take (space n) w ++ flat (r ∷ []) ++ drop (space n + size) w
+unfolding put
+put-fits w n r h =
+    let l : size ≤ length (drop (space n) w) = simp length-drop (omega arith) in
+    rw (fill-fits (drop (space n) w) r l, drop-drop) (sym (append-assoc (take (space n) w) (flat (r ∷ [])) (drop (space n + size) w)))
+
 -- without room for the record the words stay
-pub put-full : (w : List ℕ) (n : ℕ) (r : Rec) → length w < space (suc n) → put w n r ≡ w
+pub put-full : (w : List ℕ) (n : ℕ) (r : Rec) → length w < space n + size → put w n r ≡ w
 unfolding put
 put-full w n r h =
-    let l : length (drop (space n) w) < size = simp length-drop (omega (arith, space-suc n, size-some)) in
+    let l : length (drop (space n) w) < size = simp length-drop (omega (arith, size-some)) in
     rw (fill-full (drop (space n) w) r l) (take-append-drop (space n) w)
 
 ---------------------------------------------------------------- records in a row
