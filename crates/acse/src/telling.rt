@@ -2,7 +2,10 @@
 ghost use mathlib.Core.Path.{_≡_};
 ghost use Prim.Native.Nat.{_<_, _≤_, _^_};
 ghost use lib.ListN.{length};
+ghost use mathlib.Core.List.{_∷_, _++_};
 ghost use Rattle.atn.specs.Entries.{settle};
+ghost use Rattle.atn.specs.Reading.{rec};
+ghost use Rattle.atn.specs.Tags.{acse-pdu};
 ghost use Rattle.records.specs.Told.{Told};
 ghost use Rattle.answers.specs.Says.{Says};
 ghost use Rattle.acse_reasons.specs.Notes.{noteRecs};
@@ -34,6 +37,17 @@ fn tell(words: &mut [u64], n: usize, note: Note) -> usize
     n
 }
 
+// All records of a message, from the front on.
+fn tell_all(words: &mut [u64], message: Message) -> usize
+    ensures { λ m. ⌜ Told 3 (now (words .entry)) (now (words .exit)) 0 m (rec acse-pdu 0 (message .pdu) (message .second) ∷ noteRecs (message .first) ++ noteRecs (message .next)) ⌝ }
+{
+    let first = message.first;
+    let next = message.next;
+    let n = emit(words, 0, tags::ACSE_PDU, 0, message.pdu, message.second);
+    let m = tell(words, n, first);
+    tell(words, m, next)
+}
+
 // Without room for all its records a message is refused, and the words stay.
 pub fn settle_message(message: Message, words: &mut [u64]) -> Answer
     ensures { λ r. ⌜ Says r (now (words .exit)) (settle (messageReply message) (now (words .entry))) ⌝ }
@@ -49,9 +63,8 @@ pub fn settle_message(message: Message, words: &mut [u64]) -> Answer
             need: need,
         };
     }
-    let n = emit(words, 0, tags::ACSE_PDU, 0, message.pdu, message.second);
-    let m = tell(words, n, first);
-    tell(words, m, next);
+    // no more words than the records need, so that those behind them stay
+    tell_all(&mut words[..need], message);
     Answer::Accepted {
         cut: message.cut,
         reach: message.reach,

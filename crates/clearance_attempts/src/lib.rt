@@ -27,7 +27,7 @@ pub fn excuse(c: Cursor) -> Cursor
     }
 }
 
-// A clearance that may be dropped: run on no words, and again on the words unless it failed.
+// A clearance that may be dropped: where it fails, the records that it told do not count.
 pub fn try_clearance(s: &[u8], words: &mut [u64], n: usize, c: Cursor, place: u64) -> At
     requires { ⌜ n < 2 ^ 24 + 2 ^ 18 ⌝ }
     ensures { λ r. ⌜ Runs 81417 (λ e p. attempt (bitOf (now (s .entry))) place e p) (now (s .entry)) c n (now (words .entry)) (now (words .exit)) r ⌝ }
@@ -35,12 +35,12 @@ pub fn try_clearance(s: &[u8], words: &mut [u64], n: usize, c: Cursor, place: u6
     if c.why != 0 {
         return At { n: n, c: c };
     }
-    let dry = read_route_clearance(s, &mut words[..0], n, c, place);
-    let d = dry.c;
+    let x = read_route_clearance(s, words, n, c, place);
+    let d = x.c;
     let why = d.why;
     let e = excuse(d);
     match why {
-        4..=6 => At { n: n, c: e },
-        _ => read_route_clearance(s, words, n, c, place),
+        4..=5 => At { n: n, c: e },
+        _ => x,
     }
 }

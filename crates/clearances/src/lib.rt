@@ -1,6 +1,6 @@
 // A route clearance: nine presence bits, those past the window's end absent, and the parts that they say are there.
 //
-// A part is read as a value, and its records are told while the reading goes on. So what fails may have told the parts before it: a clearance that may be dropped is run on no words first.
+// A part is read as a value, and its records are told while the reading goes on. So what fails may have told the parts before it: the caller drops those.
 ghost use mathlib.Core.Path.{_≡_};
 ghost use Prim.Native.Nat.{_+_, _<_, _^_};
 ghost use Rattle.x691.specs.Bits.{bitOf};
@@ -102,7 +102,7 @@ fn read_fields(s: &[u8], words: &mut [u64], n: usize, c: Cursor, v: u64) -> At
     read_route(s, words, arrival.n, arrival.c, v)
 }
 
-// The clearance with this place in its message. Where it fails, the parts before are told: the caller runs it on no words first.
+// The clearance with this place in its message. Where it fails, the parts before are told: the caller drops them.
 pub fn read_route_clearance(s: &[u8], words: &mut [u64], n: usize, c: Cursor, place: u64) -> At
     requires { ⌜ n < 2 ^ 24 + 2 ^ 19 ⌝ }
     ensures { λ r. ⌜ Runs 81417 (λ e p. read routeClearance (0, place) (bitOf (now (s .entry))) e p) (now (s .entry)) c n (now (words .entry)) (now (words .exit)) r ⌝ }

@@ -56,7 +56,8 @@ fn parse(frame: &[u8], words: &mut [u64], ground: bool) -> Answer
         copy(&spare[..need], words);
         return accepted(c.at, c.marks, tried.n);
     }
-    pdu(words, first, frame, ground);
+    // no more words than the records need, so that those behind them stay
+    pdu(&mut words[..need], first, frame, ground);
     accepted(c.at, c.marks, tried.n)
 }
 

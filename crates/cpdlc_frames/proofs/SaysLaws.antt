@@ -11,7 +11,7 @@ use Rattle.answers.specs.declared.Answer.{Answer}
 use Rattle.answers.specs.declared.Answer.the-variants.{Accepted, Refused}
 use Rattle.answers.specs.Says.{Says}
 use Rattle.cursor.specs.declared.place.Cursor.{Cursor}
-use Rattle.records.specs.Puts.{space}
+use Rattle.records.specs.Space.{space}
 use Rattle.records.proofs.Passes.{settle-out, settle-bad, settle-lack, settle-full, settle-fits}
 use Rattle.spare_words.proofs.KeptLaws.{settle-kept}
 use Rattle.runs.specs.declared.At.{At}
@@ -21,17 +21,17 @@ use Rattle.verdicts.specs.declared.Verdict.{Verdict}
 use Rattle.verdicts.specs.Verdicts.{verdictOf, Tells, Kept, Follows}
 use Rattle.cpdlc_frames.proofs.ReadingLaws.{begin, begin-inside, ran-tells}
 
-module _ {w : List ℕ} (cut : Bool) (v : Verdict) {need : ℕ} (needs : need ≡ space (v .count)) where
+module _ (w : List ℕ) (cut : Bool) (v : Verdict) {need : ℕ} (needs : need ≡ space (v .count)) where
   -- the records do not fit
   pub says-full : length w < need → (R : List Rec) → v .count ≡ length R → Says (Refused 7 (v .reach) need) w (settle (accept cut (v .reach) (v .marks) R) w)
   says-full l R e = record { is = settle-full refl refl e needs l }
 
   -- they do, and were written
-  pub says-written : (d : ℕ) (down up s : List ℕ) {b : ℕ} {w′ : List ℕ} {x : At} → need ≤ length w → {c : Cursor} → c ≡ begin s → Runs b (pduAt d down up s) s c 0 w w′ x → (R : List Rec) → v .count ≡ length R → Tells R (readFrame (pdus d down up) s)
-      → Says (Accepted cut (v .reach) (v .marks) (v .count)) w′ (settle (accept cut (v .reach) (v .marks) R) w)
-  says-written d down up s l from runs R e t =
+  pub says-written : (d : ℕ) (down up s : List ℕ) {b : ℕ} {e : List ℕ} {x : At} → need ≤ length w → {c : Cursor} → c ≡ begin s → Runs b (pduAt d down up s) s c 0 (take need w) e x → (R : List Rec) → v .count ≡ length R → Tells R (readFrame (pdus d down up) s)
+      → Says (Accepted cut (v .reach) (v .marks) (v .count)) (e ++ drop need w) (settle (accept cut (v .reach) (v .marks) R) w)
+  says-written d down up s l from runs R q t =
       let run = rw from at runs in
-      record { is = settle-fits refl refl e needs l (rw (ran-tells d down up s (run .ran (begin-inside s)) t) at (run .told)) }
+      record { is = settle-fits refl refl q needs l (rw (ran-tells d down up s (run .ran (begin-inside s)) t) at (run .told)) }
 
 -- they fit, and were kept
 pub says-kept : (w k : List ℕ) (cut : Bool) (v : Verdict) {need : ℕ} → need ≡ space (v .count) → {r : Reply} {w′ : List ℕ} → need ≤ length w → need ≤ length k → w′ ≡ take need k ++ drop (length (take need k)) w → Kept r k → (R : List Rec) → v .count ≡ length R → Tells R r

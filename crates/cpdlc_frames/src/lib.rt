@@ -93,7 +93,16 @@ fn write_frame(
             count: v.count,
         };
     }
-    read_pdu(frame, words, 0, start(frame), direction, down, up);
+    // no more words than the records need, so that those behind them stay
+    read_pdu(
+        frame,
+        &mut words[..need],
+        0,
+        start(frame),
+        direction,
+        down,
+        up,
+    );
     Answer::Accepted {
         cut: cut,
         reach: v.reach,

@@ -11,7 +11,7 @@ use message::data::read_message;
 use runs::At;
 use runs::windows::close_window;
 
-// Data that may be given up: run on no words, and again on the words unless it failed. An unsupplied item is said all the same.
+// Data that may be given up: where it fails, the records that it told do not count. An unsupplied item is said all the same.
 pub fn try_data(s: &[u8], words: &mut [u64], n: usize, c: Cursor, table: &[u8]) -> At
     requires { ⌜ (n < 2 ^ 22) × (1 ≤ length (now table)) × (length (now table) ≤ 256) ⌝ }
     ensures { λ r. ⌜ Runs 236050 (laxData (now (table .entry)) (now (s .entry))) (now (s .entry)) c n (now (words .entry)) (now (words .exit)) r ⌝ }
@@ -19,15 +19,12 @@ pub fn try_data(s: &[u8], words: &mut [u64], n: usize, c: Cursor, table: &[u8]) 
     if c.why != 0 {
         return At { n: n, c: c };
     }
-    let dry = read_data(s, &mut words[..0], n, c, table);
-    let d = dry.c;
+    let x = read_data(s, words, n, c, table);
+    let d = x.c;
     let why = d.why;
     let at = d.at;
     let end = d.end;
     let marks = d.marks;
-    if why == 6 {
-        return At { n: n, c: d };
-    }
     let given_up = Cursor {
         at: at,
         end: end,
@@ -36,7 +33,7 @@ pub fn try_data(s: &[u8], words: &mut [u64], n: usize, c: Cursor, table: &[u8]) 
     };
     match why {
         4..=5 => At { n: n, c: given_up },
-        _ => read_data(s, words, n, c, table),
+        _ => x,
     }
 }
 

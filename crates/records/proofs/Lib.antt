@@ -1,4 +1,3 @@
 pub mod Sizes
-pub mod Putting
 pub mod Telling
 pub mod Passes

@@ -1,13 +1,13 @@
 -- How many words records take. No other law looks into `size` and `space`, so none names a number of words.
 use mathlib.Core.Path.{_≡_, refl}
 use mathlib.Core.List.{List, [], _∷_, _++_}
-use Prim.Native.Nat.{ℕ, suc, _+_, _<_}
+use Prim.Native.Nat.{ℕ, suc, _+_, _≤_, _<_}
 use native.Mathlib.Omega.{arith}
 use lib.ListN.{length}
 use lib.Dec.{lit<}
 use Rattle.atn.specs.Reading.{Rec, rec}
 use Rattle.atn.specs.Entries.{flat, need}
-use Rattle.records.specs.Puts.{size, space}
+use Rattle.records.specs.Space.{size, space}
 
 pub size-some : 0 < size
 unfolding size need
@@ -32,3 +32,19 @@ flat-length (rec t m v s) = refl
 pub flat-cons : (r : Rec) (rs : List Rec) → flat (r ∷ rs) ≡ flat (r ∷ []) ++ flat rs
 unfolding flat
 flat-cons (rec t m v s) rs = refl
+
+pub flat-append : (rs ss : List Rec) → flat (rs ++ ss) ≡ flat rs ++ flat ss
+unfolding flat
+flat-append [] ss = refl
+flat-append (rec t m v s ∷ rs) ss = rw (flat-append rs ss)
+
+-- more records take more words
+pub space-grows : {n m : ℕ} → n ≤ m → space n ≤ space m
+unfolding space size need
+space-grows h = omega arith
+
+-- the words of records are as many as they need
+pub flat-need : (rs : List Rec) → length (flat rs) ≡ need rs
+unfolding flat need
+flat-need [] = refl
+flat-need (rec t m v s ∷ rs) = let e = flat-need rs in omega arith

@@ -1,47 +1,55 @@
 -- How what is told goes together, over any records.
-use mathlib.Core.Path.{_≡_, _∙_, sym, ap}
-use mathlib.Core.List.{List, [], _++_}
+use mathlib.Core.Path.{_≡_, _∙_, refl, sym, ap}
+use mathlib.Core.List.{List, [], _++_, append-assoc, append-nil}
 use Prim.Native.Nat.{ℕ, _+_, _≤_}
 use native.Mathlib.Nat.{add-zero}
 use native.Mathlib.Omega.{arith}
-use lib.ListN.{length, length-append}
+use lib.ListN.{length, take, length-append}
+use lib.Seq.{take-take}
 use Rattle.atn.specs.Reading.{Rec}
+use Rattle.atn.specs.Entries.{flat}
+use Rattle.records.specs.Space.{space}
 use Rattle.records.specs.Told.{Told}
-use Rattle.records.proofs.Putting.{puts-none, puts-more, puts-length, puts-empty}
+use Rattle.records.proofs.Sizes.{flat-append, space-grows, space-zero}
 
 pub told-none : {w : List ℕ} {n : ℕ} → Told 0 w w n n []
-told-none {w} {n} = record { count = sym (add-zero n); words = sym (puts-none w n); few = omega arith }
+unfolding flat
+told-none {w} {n} = record { count = sym (add-zero n); few = omega arith; room = refl; before = refl; words = λ _. sym (append-nil (take (space n) w)) }
+
+-- words that are alike up to the space of m are alike up to that of n
+shorter : (w w′ : List ℕ) (n m : ℕ) → n ≤ m → take (space m) w′ ≡ take (space m) w → take (space n) w′ ≡ take (space n) w
+shorter w w′ n m h e =
+    let l : space n ≤ space m = space-grows h in
+    sym (take-take (space n) (space m) w′ l) ∙ ap (λ (x : List ℕ). take (space n) x) e ∙ take-take (space n) (space m) w l
 
 pub told-then : {j k : ℕ} {w w₁ w₂ : List ℕ} {n m l : ℕ} {rs ss : List Rec}
     → Told j w w₁ n m rs → Told k w₁ w₂ m l ss → Told (j + k) w w₂ n l (rs ++ ss)
-told-then {w = w} {n = n} {rs = rs} {ss = ss} p q =
+told-then {w = w} {w₁ = w₁} {w₂ = w₂} {n = n} {m = m} {l = l} {rs = rs} {ss = ss} p q =
+    let h : n ≤ m = omega (arith, p .count) in
+    let g : space m ≤ space l = space-grows (omega (arith, q .count)) in
     record {
       count = simp length-append (omega (arith, p .count, q .count));
-      words = rw (puts-more w n rs ss, ← p .count, ← p .words) (q .words);
       few = omega (arith, p .few, q .few);
+      room = q .room ∙ p .room;
+      before = shorter w₁ w₂ n m h (q .before) ∙ p .before;
+      words =
+          λ f.
+          q .words (omega (arith, p .room)) ∙ ap (λ (x : List ℕ). x ++ flat ss) (p .words (omega arith))
+          ∙ append-assoc (take (space n) w) (flat rs) (flat ss) ∙ ap (λ (x : List ℕ). take (space n) w ++ x) (sym (flat-append rs ss));
     }
 
 -- a wider bound
 pub told-within : {j : ℕ} (k : ℕ) {w w′ : List ℕ} {n m : ℕ} {rs : List Rec} → j ≤ k → Told j w w′ n m rs → Told k w w′ n m rs
-told-within k h p = record { count = p .count; words = p .words; few = omega (arith, p .few) }
+told-within k h p = record { count = p .count; few = omega (arith, p .few); room = p .room; before = p .before; words = p .words }
 
 pub told-length : {k : ℕ} {w w′ : List ℕ} {n m : ℕ} {rs : List Rec} → Told k w w′ n m rs → length w′ ≡ length w
-told-length {w = w} {n = n} {rs = rs} p = ap length (p .words) ∙ puts-length w n rs
+told-length p = p .room
 
--- any two outcomes are equal: the words, and the count
-pub told-same : {j k : ℕ} {w w₁ w₂ : List ℕ} {n m l : ℕ} {rs : List Rec} → Told j w w₁ n m rs → Told k w w₂ n l rs → (w₁ ≡ w₂) × (m ≡ l)
-told-same p q = (p .words ∙ sym (q .words), p .count ∙ sym (q .count))
+-- what is told and then dropped is as if it had not been told
+pub told-dropped : {k : ℕ} {w w′ : List ℕ} {n m : ℕ} {rs : List Rec} → Told k w w′ n m rs → Told 0 w w′ n n []
+unfolding flat
+told-dropped {w = w} {n = n} p = record { count = sym (add-zero n); few = omega arith; room = p .room; before = p .before; words = λ _. p .before ∙ sym (append-nil (take (space n) w)) }
 
----------------------------------------------------------------- dry runs: lent none of the words, of which e comes back in front of the others
-
--- nothing is written
-pub dry-leaves : {k : ℕ} {e : List ℕ} {n m : ℕ} {rs : List Rec} (w : List ℕ) → Told k [] e n m rs → e ++ w ≡ w
-dry-leaves {n = n} {rs = rs} w p = ap (λ (l : List ℕ). l ++ w) (p .words ∙ puts-empty n rs)
-
--- what is tried and dropped tells nothing
-pub dry-dropped : {k : ℕ} {e : List ℕ} {n m : ℕ} {rs : List Rec} (w : List ℕ) → Told k [] e n m rs → Told 0 w (e ++ w) n n []
-dry-dropped w p = rw (dry-leaves w p) told-none
-
--- what is tried and kept is told as if it had not been tried
-pub dry-kept : {j k : ℕ} {e w w′ : List ℕ} {n m l : ℕ} {rs ss : List Rec} → Told k [] e n m rs → Told j (e ++ w) w′ n l ss → Told j w w′ n l ss
-dry-kept {w = w} p q = rw (dry-leaves w p) at q
+-- from the front on: where they fit, the records are the first of the words
+pub told-first : {k : ℕ} {w w′ : List ℕ} {m : ℕ} {rs : List Rec} → Told k w w′ 0 m rs → space m ≤ length w → take (space m) w′ ≡ flat rs
+told-first {w = w} {rs = rs} p h = p .words h ∙ ap (λ (k : ℕ). take k w ++ flat rs) space-zero

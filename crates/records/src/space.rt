@@ -1,7 +1,7 @@
 // How many words records take.
 ghost use mathlib.Core.Path.{_≡_};
 ghost use Prim.Native.Nat.{_<_, _^_};
-ghost use Rattle.records.specs.Puts.{space};
+ghost use Rattle.records.specs.Space.{space};
 use super::WORDS;
 
 // The words of n records.

@@ -1,15 +1,15 @@
--- A part that may be dropped: it is run dry first, and again on the words unless it failed.
-use mathlib.Core.Path.{_≡_, refl, sym, ap, _∙_}
+-- A part that may be dropped with what it told.
+use mathlib.Core.Path.{_≡_, refl, ap, _∙_}
 use mathlib.Core.Bool.{Bool, true, false}
-use mathlib.Core.List.{List, [], _++_}
-use Prim.Native.Nat.{ℕ, _+_, _≤_}
+use mathlib.Core.List.{List, []}
+use Prim.Native.Nat.{ℕ, _≤_}
 use native.Mathlib.Omega.{arith}
 use Rattle.atn.specs.Format.{Why, out, bad, lack, quit}
 use Rattle.atn.specs.Reading.{Rec, Ans, ok, past, stop, or, mark, laxly, giveUp}
 use Rattle.atn.proofs.Marks.{or-assoc, or-commutes}
 use Rattle.cursor.specs.declared.place.Cursor.{Cursor}
 use Rattle.cursor.specs.Place.{put}
-use Rattle.records.proofs.Telling.{dry-dropped, dry-kept}
+use Rattle.records.proofs.Telling.{told-dropped}
 use Rattle.runs.specs.declared.At.{At}
 use Rattle.runs.specs.Runs.{given, Ran, stayed, went, passed, gaveUp, failed, Runs}
 use Rattle.runs.proofs.RunLaws.{dropped}
@@ -43,10 +43,6 @@ ran-after y (failed bad p m S n z a l q) = rw a q
 ran-after y (failed lack p m S n z a l q) = rw a q
 ran-after y (failed (quit o j t) p m S n z a l q) = absurd (n refl)
 
--- so any two runs of one reading end alike
-ran-alike : {k : ℕ → ℕ → Ans} {c d e : Cursor} {R S : List Rec} → c .why ≡ 0 → Ran k c d R → Ran k c e S → d ≡ e
-ran-alike z x y = ran-after z x ∙ sym (ran-after z y)
-
 ---------------------------------------------------------------- a part whose failure gives it up
 
 module _ {k : ℕ → ℕ → Ans} {c d : Cursor} {R : List Rec} (t : ℕ) (j : Bool) where
@@ -75,19 +71,6 @@ module _ {k : ℕ → ℕ → Ans} {c d : Cursor} {R : List Rec} (t : ℕ) (j : 
   lax-dropped y (failed lack p m S n z a l q) b₄ b₅ = absurd (let x : 6 ≤ 5 = rw q at b₅ in omega arith)
   lax-dropped y (failed (quit o i v) p m S n z a l q) b₄ b₅ = absurd (n refl)
 
-  -- an unsupplied item is said, and nothing need be told
-  pub lax-lack : c .why ≡ 0 → Ran k c d R → d .why ≡ 6 → Ran (λ e p. laxly t j (k e p)) c d []
-  unfolding laxly giveUp
-  lax-lack y (stayed h q r) e = absurd (h y)
-  lax-lack y (went p m z a l q) e = absurd (let x : 0 ≡ 6 = rw q at e in omega arith)
-  lax-lack y (passed p m z a l q) e = absurd (let x : 7 ≡ 6 = rw q at e in omega arith)
-  lax-lack y (gaveUp o true v p m z a l q) e = absurd (let x : 9 ≡ 6 = rw q at e in omega arith)
-  lax-lack y (gaveUp o false v p m z a l q) e = absurd (let x : 8 ≡ 6 = rw q at e in omega arith)
-  lax-lack y (failed out p m S n z a l q) e = absurd (let x : 4 ≡ 6 = rw q at e in omega arith)
-  lax-lack y (failed bad p m S n z a l q) e = absurd (let x : 5 ≡ 6 = rw q at e in omega arith)
-  lax-lack y (failed lack p m S n z a l q) e = failed lack p m S n z (rw a) l q
-  lax-lack y (failed (quit o i v) p m S n z a l q) e = absurd (n refl)
-
 given-high : (j : Bool) → given j ≤ 5 → ⊥
 given-high true h = omega arith
 given-high false h = omega arith
@@ -109,21 +92,11 @@ lax-ends k {c} {d} t j z r =
 
 ---------------------------------------------------------------- on the words
 
-module _ {b : ℕ} {k : ℕ → ℕ → Ans} {s : List ℕ} {c : Cursor} {n : ℕ} {e w : List ℕ} {r : At} (t : ℕ) (j : Bool) (z : c .why ≡ 0) (dry : Runs b k s c n [] e r) where
-  -- it failed: nothing is told
-  pub tried-dropped : 4 ≤ r .c .why → r .c .why ≤ 5 → Runs 0 (λ u p. laxly t j (k u p)) s c n w (e ++ w) (record { n = n; c = dropped (r .c) j t })
-  tried-dropped l h = record { recs = []; ran = λ i. lax-dropped t j z (dry .ran i) l h; told = dry-dropped w (dry .told) }
+module _ {b : ℕ} {k : ℕ → ℕ → Ans} {s : List ℕ} {c : Cursor} {n : ℕ} {w w′ : List ℕ} {r : At} (t : ℕ) (j : Bool) (x : Runs b k s c n w w′ r) where
+  -- it failed: what it told is dropped
+  pub tried-dropped : c .why ≡ 0 → 4 ≤ r .c .why → r .c .why ≤ 5 → Runs 0 (λ u p. laxly t j (k u p)) s c n w w′ (record { n = n; c = dropped (r .c) j t })
+  tried-dropped z l h = record { recs = []; ran = λ i. lax-dropped t j z (x .ran i) l h; told = told-dropped (x .told) }
 
-  pub tried-lacks : r .c .why ≡ 6 → Runs 0 (λ u p. laxly t j (k u p)) s c n w (e ++ w) (record { n = n; c = r .c })
-  tried-lacks q = record { recs = []; ran = λ i. lax-lack t j z (dry .ran i) q; told = dry-dropped w (dry .told) }
-
-  -- it did not: it is run again
-  pub tried-kept : {w′ : List ℕ} {f : At} → (4 ≤ r .c .why → r .c .why ≤ 6 → ⊥) → Runs b k s c n (e ++ w) w′ f → Runs b (λ u p. laxly t j (k u p)) s c n w w′ f
-  tried-kept {f = f} h x =
-      record {
-        recs = x .recs;
-        ran = λ i. (
-            let q : f .c ≡ r .c = ran-alike z (x .ran i) (dry .ran i) in
-            lax-kept t j (x .ran i) (λ y. h (omega (arith, ap (λ (o : Cursor). o .why) q)) (omega (arith, ap (λ (o : Cursor). o .why) q))) (λ y. h (omega (arith, ap (λ (o : Cursor). o .why) q)) (omega (arith, ap (λ (o : Cursor). o .why) q))));
-        told = dry-kept (dry .told) (x .told);
-      }
+  -- it did not: it stays as it is
+  pub tried-kept : (4 ≤ r .c .why → r .c .why ≤ 5 → ⊥) → Runs b (λ u p. laxly t j (k u p)) s c n w w′ r
+  tried-kept h = record { recs = x .recs; ran = λ i. lax-kept t j (x .ran i) (λ y. h (omega arith) (omega arith)) (λ y. h (omega arith) (omega arith)); told = x .told }

@@ -1,31 +1,24 @@
 -- Records that a first reading put into spare words, and what `settle` says once they are copied.
-use mathlib.Core.Path.{_≡_, refl, sym, ap, _∙_}
+use mathlib.Core.Path.{_≡_, sym, ap, _∙_}
 use mathlib.Core.Bool.{Bool}
-use mathlib.Core.List.{List, [], _∷_, _++_}
-use Prim.Native.Nat.{ℕ, suc, _+_, _≤_}
+use mathlib.Core.List.{List, _++_}
+use Prim.Native.Nat.{ℕ, _+_, _≤_}
 use native.Mathlib.Omega.{arith}
 use lib.ListN.{length, take, drop, length-append, length-drop}
-use lib.Seq.{take-at}
 use borrow.Author.Tests.{le-leb}
-use Rattle.atn.specs.Reading.{Rec, rec}
+use Rattle.atn.specs.Reading.{Rec}
 use Rattle.atn.specs.Entries.{Reply, accept, accepted, Outcome, flat, need, settle}
-use Rattle.records.specs.Puts.{space}
+use Rattle.records.specs.Space.{space}
 use Rattle.records.specs.Told.{Told}
-use Rattle.records.proofs.Sizes.{need-space}
-use Rattle.records.proofs.Putting.{puts-fits}
-use Rattle.records.proofs.Telling.{told-length}
-
--- the words of records are as many as they need
-flat-need : (R : List Rec) → length (flat R) ≡ need R
-unfolding flat need
-flat-need [] = refl
-flat-need (rec t n v u ∷ R) = ap (λ (k : ℕ). suc (suc (suc (suc k)))) (flat-need R) ∙ omega arith
+use Rattle.records.proofs.Sizes.{need-space, flat-need}
+use Rattle.records.proofs.Telling.{told-first, told-length}
+use Rattle.records.proofs.Passes.{counted}
 
 -- records that fit stand at the front
 pub told-kept : {b : ℕ} {w k : List ℕ} {m : ℕ} {R : List Rec} → Told b w k 0 m R → need R ≤ length k → take (need R) k ≡ flat R
-told-kept {w = w} {R = R} told h =
-    let fit : need R ≤ length w = rw (told-length told) at h in
-    rw (told .words, puts-fits w R fit) (take-at (flat R) (drop (need R) w) (need R) (flat-need R))
+told-kept {k = k} {m = m} {R = R} told h =
+    let e : space m ≡ need R = ap space (counted told) ∙ sym (need-space R) in
+    rw e at (told-first told (omega (arith, told-length told)))
 
 -- what was copied is as long as it was
 pub copied-length : (f w : List ℕ) {w′ : List ℕ} → w′ ≡ f ++ drop (length f) w → length f ≤ length w → length w′ ≡ length w

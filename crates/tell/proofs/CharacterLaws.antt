@@ -1,20 +1,19 @@
 -- Characters by where they stand, and the records of all of them.
 use mathlib.Core.Path.{_≡_, refl, sym, ap, _∙_}
 use mathlib.Core.Bool.{Bool, true, false}
-use mathlib.Core.List.{List, [], _∷_}
+use mathlib.Core.List.{List, [], _∷_, _++_, append-assoc, append-nil}
 use Prim.Native.Nat.{ℕ, zero, suc, _+_, _-_, _*_, _/_, _^_, _≤_, _<_}
 use native.Mathlib.Nat.{zero-mul, suc-mul, add-mul, mul-assoc, mul-comm, add-zero, add-suc, suc-add, pow-suc, pow-le-pow-right, mul-le-mul-right}
 use native.Mathlib.Numerals.{add-one}
 use native.Mathlib.Omega.{arith}
-use lib.ListN.{length, drop}
+use lib.ListN.{length, drop, length-append}
 use lib.Dec.{ltb, lit<}
 use borrow.Author.Tests.{ltb-true, ltb-false}
 use Rattle.x691.specs.Bits.{bitOf, uint}
 use Rattle.per.proofs.Laws.{uint-below}
 use Rattle.atn.specs.Reading.{Rec, rec, octets, packs, pack, coded, units}
-use Rattle.records.specs.Puts.{puts}
 use Rattle.records.specs.Told.{Told}
-use Rattle.records.proofs.Putting.{puts-none, puts-more, puts-length}
+use Rattle.records.proofs.Telling.{told-none, told-then, told-within, told-length}
 use Rattle.tell.specs.declared.characters.Run.{Run}
 use Rattle.tell.specs.Characters.{from, Spelt, Character}
 
@@ -128,36 +127,33 @@ module _ (t m : ℕ) (s : List ℕ) (r : Run) where
   unfolding pack
   behind-all = let e : r .len ≡ r .len - 0 = omega arith in rw (from-length s r) (ap (λ (l : ℕ). packs t m (r .len) ((l + 7) / 8) (from s r 0)) e)
 
-length-packs : (t m n k : ℕ) (cs : List ℕ) → length (packs t m n k cs) ≡ k
-unfolding packs
-length-packs t m n zero cs = refl
-length-packs t m n (suc k) cs = ap suc (length-packs t m n k (drop 8 cs))
-
--- the characters before i are told: with the others told behind m, the words are those of all told behind n
+-- the records of the characters before i are told, and with the others they are all
 pub record Upto (t e : ℕ) (s : List ℕ) (r : Run) (w w′ : List ℕ) (n m i : ℕ) : Type 0 where
-  pub words : puts w′ m (behind t e s r i) ≡ puts w n (behind t e s r 0)
+  pub gone : List Rec
+  pub told : Told (length gone) w w′ n m gone
+  pub all : gone ++ behind t e s r i ≡ behind t e s r 0
   pub count : m + (r .len - i + 7) / 8 ≡ n + (r .len + 7) / 8
 
 pub upto-none : {t e : ℕ} {s : List ℕ} {r : Run} {w : List ℕ} {n : ℕ} → Upto t e s r w w n n 0
-upto-none = record { words = refl; count = omega arith }
+upto-none = record { gone = []; told = told-none; all = refl; count = omega arith }
 
 module _ {t e : ℕ} {s : List ℕ} {r : Run} {w w′ : List ℕ} where
   pub upto-more : {w″ : List ℕ} {n m l i v : ℕ} → i < r .len → Upto t e s r w w′ n m i → v ≡ octets 8 (from s r i) → Told 1 w′ w″ m l (rec t e v (r .len) ∷ []) → Upto t e s r w w″ n l (i + 8)
   upto-more {w″} {n} {m} {l} {i} {v} h u q x =
       let c : l ≡ m + 1 = x .count in
-      let y : w″ ≡ puts w′ m (rec t e v (r .len) ∷ []) = x .words in
+      let one : List Rec = rec t e v (r .len) ∷ [] in
       record {
-        words = rw (y, c) (sym (puts-more w′ m (rec t e v (r .len) ∷ []) (behind t e s r (i + 8))) ∙ rw q (rw (behind-next t e s r i h) at (u .words)));
+        gone = u .gone ++ one;
+        told = told-within (length (u .gone ++ one)) (simp length-append (omega arith)) (told-then (u .told) x);
+        all = append-assoc (u .gone) one (behind t e s r (i + 8)) ∙ ap (λ (rs : List Rec). u .gone ++ rs) (rw q (sym (behind-next t e s r i h))) ∙ u .all;
         count = omega (arith, u .count);
       }
 
   pub upto-all : {n m i : ℕ} → r .len ≤ i → Upto t e s r w w′ n m i → Told ((r .len + 7) / 8) w w′ n m (pack t e (from s r 0))
   upto-all {n} {m} {i} h u =
-      record {
-        count = rw (behind-all t e s r, length-packs t e (r .len) ((r .len - 0 + 7) / 8) (from s r 0)) (omega (arith, u .count));
-        words = rw (behind-all t e s r) (sym (puts-none w′ m) ∙ (rw (behind-none t e s r i h) at (u .words)));
-        few = omega (arith, u .count);
-      }
+      let q : u .gone ≡ pack t e (from s r 0) = sym (append-nil (u .gone)) ∙ (rw (behind-none t e s r i h) at (u .all)) ∙ sym (behind-all t e s r) in
+      let x : Told (length (u .gone)) w w′ n m (pack t e (from s r 0)) = rw q (rw q at (u .told)) in
+      record { count = x .count; few = omega (arith, u .count); room = x .room; before = x .before; words = x .words }
 
   pub upto-length : {n m i : ℕ} → Upto t e s r w w′ n m i → length w′ ≡ length w
-  upto-length {n} {m} {i} u = sym (puts-length w′ m (behind t e s r i)) ∙ ap length (u .words) ∙ puts-length w n (behind t e s r 0)
+  upto-length u = told-length (u .told)

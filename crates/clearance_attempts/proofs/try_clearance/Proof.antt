@@ -1,10 +1,9 @@
 use mathlib.Core.Bool.{true}
 use native.Mathlib.Omega.{arith}
 use borrow.Author.Needs.{needs}
-use mathlib.Core.Logic.{⊎-elim}
 use Rattle.runs.proofs.RunLaws.{runs-stayed, runs-within}
-use Rattle.runs.proofs.AttemptLaws.{tried-kept}
-use Rattle.clearance_attempts.proofs.AttemptLaws.{tried-excused}
+use Rattle.runs.proofs.AttemptLaws.{tried-dropped, tried-kept}
+use Rattle.records.proofs.Telling.{told-length}
 use Rattle.clearance_attempts.proofs.try_clearance.Statement.{statement}
 use Rattle.clearance_attempts.proofs.try_clearance.Tie as tie
 
@@ -14,14 +13,27 @@ returns c = runs-within 81417 _ (omega arith) (runs-stayed _ (c .if1 .taken))
 read-route-clearance-requires : tie.Need-read-route-clearance-requires
 read-route-clearance-requires c κs = omega (arith, c .before .before .before .before .before .pre)
 
-read-route-clearance-requires-2 : tie.Need-read-route-clearance-requires-2
-read-route-clearance-requires-2 c κs = omega (arith, c .before .before .before .before .before .before .before .before .before .before .before .before .pre)
-
 returns-2 : tie.Need-returns-2
-returns-2 c = runs-within 81417 _ (omega arith) (tried-excused (c .before .before .before .before .before .before .before .before .if1 .left) (c .before .before .before .before .before .before .read-route-clearance .ensures) (omega (arith, c .before .if2 .left)) (omega (arith, c .if3 .taken)) (c .before .before .excuse .ensures))
+returns-2 c =
+    let low = c .before .if2 .left in
+    let high = c .if3 .taken in
+    rw (c .before .before .excuse .ensures .given low (omega arith))
+    (runs-within 81417 _ (omega arith) (tried-dropped 7 true (c .before .before .before .before .before .before .read-route-clearance .ensures) (c .before .before .before .before .before .before .before .before .if1 .left) low (omega arith)))
 
 returns-3 : tie.Need-returns-3
-returns-3 c = tried-kept 7 true (c .before .before .before .before .before .before .before .before .before .before .before .if1 .left) (c .before .before .before .before .before .before .before .before .before .read-route-clearance .ensures) (λ l h. ⊎-elim (λ x. omega (arith, x .taken)) (λ x. omega (arith, x .1 .left)) (c .before .before .before .before .if2 .came)) (c .before .before .read-route-clearance2 .ensures)
+returns-3 c = tried-kept 7 true (c .before .before .before .before .before .read-route-clearance .ensures) (λ l h. omega (arith, c .if2 .taken))
+
+returns-4 : tie.Need-returns-4
+returns-4 c = tried-kept 7 true (c .before .before .before .before .before .before .read-route-clearance .ensures) (λ l h. omega (arith, c .if3 .left))
+
+same-length : tie.Need-same-length
+same-length c = told-length (c .before .before .before .before .before .before .read-route-clearance .ensures .told)
+
+same-length-2 : tie.Need-same-length-2
+same-length-2 c = told-length (c .before .before .before .before .before .read-route-clearance .ensures .told)
+
+same-length-3 : tie.Need-same-length-3
+same-length-3 c = told-length (c .before .before .before .before .before .before .read-route-clearance .ensures .told)
 
 pub try-clearance-spec : {M : Type 1} → statement M
-try-clearance-spec = tie.close (tie.spec returns (λ c. search needs) (λ c. search needs) read-route-clearance-requires (λ c κs. search needs) read-route-clearance-requires-2 (λ c. search needs) returns-2 (λ c. search needs) returns-3)
+try-clearance-spec = tie.close (tie.spec returns read-route-clearance-requires (λ c κs. search needs) same-length returns-2 same-length-2 returns-3 same-length-3 returns-4)

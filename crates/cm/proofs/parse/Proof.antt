@@ -3,7 +3,7 @@ use mathlib.Core.List.{List}
 use Prim.Native.Nat.{ℕ, _≤_}
 use native.Mathlib.Omega.{arith}
 use lib.ListN.{length, take}
-use lib.Seq.{length-take-le}
+use lib.Seq.{length-take-le, length-front}
 use Rattle.records.proofs.Telling.{told-length}
 use Rattle.spare_words.proofs.KeptLaws.{told-kept, copied-length, settle-kept}
 use Rattle.records.proofs.Passes.{counted, settle-full, settle-fits}
@@ -17,9 +17,7 @@ returns : tie.Need-returns
 returns c = record { is = rw (c .refused .ensures) (enter-long _ _ (c .before .before .before .before .args .frame .now) (c .before .before .before .before .args .words .now) (c .before .if1 .taken)) }
 
 returns-2 : tie.Need-returns-2
-returns-2 c =
-    let first = c .before .before .before .before .before .pdu .ensures in
-    record { is = rw (c .refused2 .ensures) (enter-reads _ (c .before .before .before .before .before .before .before .before .before .before .args .frame .now) (c .before .before .before .before .before .before .before .before .before .before .args .words .now) (c .before .before .before .before .before .before .before .if1 .left) refl (frame-refused (first .reads) refl (c .before .if2 .taken))) }
+returns-2 c = record { is = rw (c .refused2 .ensures) (enter-reads _ (c .before .before .before .before .before .before .before .before .before .before .args .frame .now) (c .before .before .before .before .before .before .before .before .before .before .args .words .now) (c .before .before .before .before .before .before .before .if1 .left) refl (frame-refused (c .before .before .before .before .before .pdu .ensures .reads) refl (c .before .if2 .taken))) }
 
 returns-3 : tie.Need-returns-3
 returns-3 c =
@@ -37,20 +35,31 @@ slice-aggregate-copy : tie.Need-slice-aggregate-copy
 slice-aggregate-copy c = sym (length-take-le _ _ (fits _ (c .before .before .before .before .before .before .before .before .pdu .last .0) (c .before .if4 .taken) (told-length (c .before .before .before .before .before .before .before .before .pdu .ensures .told))))
 
 copy-requires : tie.Need-copy-requires
-copy-requires c κs = subst (λ (n : ℕ). n ≤ length (c .before .before .before .before .before .before .before .before .before .before .before .before .before .before .args .words .now)) (sym (length-take-le (c .before .before .before .before .words-for .result) (c .before .before .before .before .before .before .before .before .before .pdu .last .0) (fits _ (c .before .before .before .before .before .before .before .before .before .pdu .last .0) (c .before .before .if4 .taken) (told-length (c .before .before .before .before .before .before .before .before .before .pdu .ensures .told))))) (c .before .before .before .if3 .left)
+copy-requires c κs =
+    let need = c .before .before .before .before .words-for .result in
+    let kept = c .before .before .before .before .before .before .before .before .before .pdu .last .0 in
+    subst (λ (n : ℕ). n ≤ length (c .before .before .before .before .before .before .before .before .before .before .before .before .before .before .args .words .now)) (sym (length-take-le need kept (fits need kept (c .before .before .if4 .taken) (told-length (c .before .before .before .before .before .before .before .before .before .pdu .ensures .told))))) (c .before .before .before .if3 .left)
 
 same-length : tie.Need-same-length
 same-length c =
-    let z : length (take (c .before .before .before .before .before .before .before .before .words-for .result) (c .before .before .before .before .before .before .before .before .before .before .before .before .before .pdu .last .0)) ≡ c .before .before .before .before .before .before .before .before .words-for .result = length-take-le (c .before .before .before .before .before .before .before .before .words-for .result) (c .before .before .before .before .before .before .before .before .before .before .before .before .before .pdu .last .0) (fits _ (c .before .before .before .before .before .before .before .before .before .before .before .before .before .pdu .last .0) (c .before .before .before .before .before .before .if4 .taken) (told-length (c .before .before .before .before .before .before .before .before .before .before .before .before .before .pdu .ensures .told))) in
-    copied-length (take (c .before .before .before .before .before .before .before .before .words-for .result) (c .before .before .before .before .before .before .before .before .before .before .before .before .before .pdu .last .0)) (c .before .before .before .before .before .before .before .before .before .before .before .before .before .before .before .before .before .before .args .words .now) (c .before .before .before .copy .ensures) (subst (λ (n : ℕ). n ≤ length (c .before .before .before .before .before .before .before .before .before .before .before .before .before .before .before .before .before .before .args .words .now)) (sym z) (c .before .before .before .before .before .before .before .if3 .left))
+    let need = c .before .before .before .before .before .before .before .before .words-for .result in
+    let kept = c .before .before .before .before .before .before .before .before .before .before .before .before .before .pdu .last .0 in
+    let w = c .before .before .before .before .before .before .before .before .before .before .before .before .before .before .before .before .before .before .args .words .now in
+    let z : length (take need kept) ≡ need = length-take-le need kept (fits need kept (c .before .before .before .before .before .before .if4 .taken) (told-length (c .before .before .before .before .before .before .before .before .before .before .before .before .before .pdu .ensures .told))) in
+    copied-length (take need kept) w (c .before .before .before .copy .ensures) (subst (λ (n : ℕ). n ≤ length w) (sym z) (c .before .before .before .before .before .before .before .if3 .left))
 
 returns-4 : tie.Need-returns-4
 returns-4 c =
     let first = c .before .before .before .before .before .before .before .before .before .before .before .before .before .pdu .ensures in
-    record { is = rw (c .accepted .ensures) (enter-reads _ (c .before .before .before .before .before .before .before .before .before .before .before .before .before .before .before .before .before .before .args .frame .now) (c .before .before .before .before .before .before .before .before .before .before .before .before .before .before .before .before .before .before .args .words .now) (c .before .before .before .before .before .before .before .before .before .before .before .before .before .before .before .if1 .left) refl (settle-kept (frame-accepted (first .reads) (c .before .before .before .before .before .before .before .before .before .if2 .left)) (counted (first .told)) (c .before .before .before .before .before .before .before .before .words-for .ensures) (c .before .before .before .before .before .before .before .before .before .before .before .before .before .before .before .before .before .before .args .words .now) (c .before .before .before .before .before .before .before .before .before .before .before .before .before .pdu .last .0) (c .before .before .before .before .before .before .before .if3 .left) (fits _ (c .before .before .before .before .before .before .before .before .before .before .before .before .before .pdu .last .0) (c .before .before .before .before .before .before .if4 .taken) (told-length (first .told))) (told-kept (first .told)) (c .before .before .before .copy .ensures))) }
+    let kept = c .before .before .before .before .before .before .before .before .before .before .before .before .before .pdu .last .0 in
+    let w = c .before .before .before .before .before .before .before .before .before .before .before .before .before .before .before .before .before .before .args .words .now in
+    record { is = rw (c .accepted .ensures) (enter-reads _ (c .before .before .before .before .before .before .before .before .before .before .before .before .before .before .before .before .before .before .args .frame .now) w (c .before .before .before .before .before .before .before .before .before .before .before .before .before .before .before .if1 .left) refl (settle-kept (frame-accepted (first .reads) (c .before .before .before .before .before .before .before .before .before .if2 .left)) (counted (first .told)) (c .before .before .before .before .before .before .before .before .words-for .ensures) w kept (c .before .before .before .before .before .before .before .if3 .left) (fits _ kept (c .before .before .before .before .before .before .if4 .taken) (told-length (first .told))) (told-kept (first .told)) (c .before .before .before .copy .ensures))) }
+
+slice-aggregate-pdu-2 : tie.Need-slice-aggregate-pdu-2
+slice-aggregate-pdu-2 c = sym (length-take-le _ _ (c .before .before .if3 .left))
 
 same-length-2 : tie.Need-same-length-2
-same-length-2 c = told-length (c .before .before .before .pdu2 .ensures .told)
+same-length-2 c = length-front (c .before .before .before .before .before .before .before .before .before .before .before .before .before .before .before .before .before .args .words .now) (c .before .before .before .pdu2 .last .0) (c .before .before .before .before .before .before .before .words-for .result) (told-length (c .before .before .before .pdu2 .ensures .told))
 
 returns-5 : tie.Need-returns-5
 returns-5 c =
@@ -59,4 +68,4 @@ returns-5 c =
     record { is = rw (c .accepted2 .ensures) (enter-reads _ (c .before .before .before .before .before .before .before .before .before .before .before .before .before .before .before .before .before .args .frame .now) (c .before .before .before .before .before .before .before .before .before .before .before .before .before .before .before .before .before .args .words .now) (c .before .before .before .before .before .before .before .before .before .before .before .before .before .before .if1 .left) refl (settle-fits refl (frame-accepted (first .reads) (c .before .before .before .before .before .before .before .before .if2 .left)) (counted (first .told)) (c .before .before .before .before .before .before .before .words-for .ensures) (c .before .before .before .before .before .before .if3 .left) (rw (frame-again (first .reads) (c .before .before .before .before .before .before .before .before .if2 .left) (again .reads)) at (again .told)))) }
 
 pub parse-spec : {M : Type 1} → statement M
-parse-spec = tie.close (tie.spec (λ c κs. search needs) returns (λ c. search needs) (λ c. search needs) (λ c κs. search needs) (λ c κs. search needs) returns-2 (λ c κs. search needs) (λ c κs. search needs) returns-3 array-share-prefix-spare slice-aggregate-copy copy-requires (λ c κs. search needs) same-length returns-4 (λ c κs. search needs) (λ c κs. search needs) same-length-2 returns-5)
+parse-spec = tie.close (tie.spec (λ c κs. search needs) returns (λ c. search needs) (λ c. search needs) (λ c κs. search needs) (λ c κs. search needs) returns-2 (λ c κs. search needs) (λ c κs. search needs) returns-3 array-share-prefix-spare slice-aggregate-copy copy-requires (λ c κs. search needs) same-length returns-4 (λ c. search needs) slice-aggregate-pdu-2 (λ c κs. search needs) (λ c κs. search needs) same-length-2 returns-5)

@@ -1,7 +1,7 @@
 -- `words_for` meets its contract.
 use native.Mathlib.Omega.{arith}
 use Rattle.atn.specs.Entries.{need}
-use Rattle.records.specs.Puts.{size, space}
+use Rattle.records.specs.Space.{size, space}
 use Rattle.records.proofs.space.words_for.Statement.{statement}
 use Rattle.records.proofs.space.words_for.Tie as tie
 
