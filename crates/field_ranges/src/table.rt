@@ -478,10 +478,28 @@ const RANGES: [Range; 58] = [
     APPLICATIONS,
 ];
 
-// The range of a row, for what is told by its number. A field that is known takes its constant: a table that is indexed by a variable is laid on the stack.
+// The range of a row, for what is told by its number: degrees, speeds, levels and frequencies. They are named one by one, and a field that is known takes its constant: a table that is indexed by a variable is laid on the stack.
 pub fn range_at(row: usize) -> Range
     requires { ⌜ row < 58 ⌝ }
     ensures { λ r. ⌜ Listed r × (r .row ≡ row) ⌝ }
 {
-    RANGES[row]
+    match row {
+        12 => DEGREES_0,
+        13 => DEGREES_1,
+        14 => SPEED_0,
+        15 => SPEED_1,
+        16 => SPEED_2,
+        17 => SPEED_3,
+        18 => SPEED_4,
+        19 => SPEED_5,
+        20 => SPEED_6,
+        21 => LEVEL_0,
+        22 => LEVEL_1,
+        23 => LEVEL_2,
+        24 => LEVEL_3,
+        25 => FREQUENCY_0,
+        26 => FREQUENCY_1,
+        27 => FREQUENCY_2,
+        _ => RANGES[row],
+    }
 }
