@@ -1,2 +1,3 @@
 pub mod NumberLaws
 pub mod ChoiceLaws
+pub mod Split

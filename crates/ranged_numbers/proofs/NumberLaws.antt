@@ -1,6 +1,5 @@
 -- A number of a range and a name, from the bits that were pulled for them.
 use mathlib.Core.Path.{_≡_, refl, sym, _∙_}
-use mathlib.Core.Bool.{true, false}
 use mathlib.Core.List.{List, [], _∷_}
 use Prim.Native.Nat.{ℕ, _+_, _%_, _^_, _≤_, _<_}
 use native.Mathlib.Omega.{arith}
@@ -16,7 +15,7 @@ use Rattle.cursor.specs.declared.place.Got.{Got}
 use Rattle.field_ranges.specs.declared.table.Range.{Range}
 use Rattle.cursor.specs.Place.{number, marked, stopped, Pulls, Takes}
 use Rattle.field_ranges.specs.Ends.{lowest, highest}
-use Rattle.ranged_numbers.specs.Numbers.{Ranged, Named}
+use Rattle.ranged_numbers.specs.Numbers.{FromLowest, Ranged, Named}
 use Rattle.field_ranges.proofs.WidthRule.{Row}
 use Rattle.cursor.proofs.Laws.{reads-ok, reads-stop, pull-then, marked-nil}
 
@@ -28,6 +27,15 @@ wraps-extent lo hi top a b c h = omega arith
 pub width-few : (lo hi : ℕ) → width (extent lo hi) ≤ 64
 unfolding extent
 width-few lo hi = width-le 64 _ (omega arith)
+
+-- mark 1 above the extent alone
+pub in-extent : {d top v : ℕ} → top ≡ d → v ≤ top → over d v ≡ 0
+unfolding over unless
+in-extent {d} {top} {v} z l = rw (le-leb v d (rw z at l))
+
+pub above-extent : {d top v : ℕ} → top ≡ d → top < v → over d v ≡ 1
+unfolding over unless mark
+above-extent {d} {top} {v} z l = rw (lt-leb v d (rw z at l))
 
 module _ {s : List ℕ} {c d : Cursor} (g : Got) where
   takes-num : (t lo hi : ℕ) → Pulls s c (width (extent lo hi)) g → d ≡ marked (g .c) (over (extent lo hi) (g .v)) → Takes (num t lo hi) s c d (λ n. rec t n (word (lo + g .v)) 0 ∷ [])
@@ -57,19 +65,12 @@ module _ {k : ℕ} {r : Range} (row : Row k r) {s : List ℕ} {c : Cursor} (g : 
   unfolding lowest highest
   pulled = rw (row .fewest, row .lowest, row .highest) at p
 
-  pub ranged-in : {v top : ℕ} → top ≡ extent (r .lo) (r .hi) → v ≡ (r .lo + g .v) % 2 ^ 64 → g .v ≤ top → Ranged k s c (record { v = v; c = g .c })
-  unfolding word lowest highest over unless
-  ranged-in {v} z q l =
-      let w : (lowest k + g .v) % 18446744073709551616 ≡ v = rw (← row .lowest) (sym q) in
-      let n : leb (g .v) (extent (lowest k) (highest k)) ≡ true = rw (← row .lowest, ← row .highest, ← z) (le-leb (g .v) _ l) in
-      record { number = λ t. rw w at (takes-num g t (lowest k) (highest k) pulled (marked-nil (g .c) ∙ rw n)) }
-
-  pub ranged-over : {v top : ℕ} {d : Cursor} → top ≡ extent (r .lo) (r .hi) → v ≡ (r .lo + g .v) % 2 ^ 64 → top < g .v → d ≡ marked (g .c) 1 → Ranged k s c (record { v = v; c = d })
-  unfolding word lowest highest over unless mark
-  ranged-over {v} z q l e =
-      let w : (lowest k + g .v) % 18446744073709551616 ≡ v = rw (← row .lowest) (sym q) in
-      let n : leb (g .v) (extent (lowest k) (highest k)) ≡ false = rw (← row .lowest, ← row .highest, ← z) (lt-leb (g .v) _ l) in
-      record { number = λ t. rw w at (takes-num g t (lowest k) (highest k) pulled (e ∙ rw n)) }
+  -- and what was told of it
+  pub ranged-told : {t : Got} → FromLowest r (g .c) (g .v) t → Ranged k s c t
+  unfolding lowest highest
+  ranged-told {t} h =
+      let w : word (lowest k + g .v) ≡ t .v = rw (← row .lowest) (sym (h .number)) in
+      record { number = λ n. rw w at (takes-num g n (lowest k) (highest k) pulled (rw (row .lowest, row .highest) at (h .marks))) }
 
   module _ (from : r .lo ≡ 0) where
     zero : lowest k ≡ 0

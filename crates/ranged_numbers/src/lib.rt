@@ -1,7 +1,7 @@
 // Numbers of a range, whose highest is not tested, and names, which are.
 ghost use mathlib.Core.Path.{_≡_};
 ghost use Rattle.field_ranges.specs.Ranges.{Listed};
-ghost use Rattle.ranged_numbers.specs.Numbers.{Ranged, Named};
+ghost use Rattle.ranged_numbers.specs.Numbers.{FromLowest, Ranged, Named};
 use cursor::place::Cursor;
 use cursor::place::Got;
 use cursor::place::bits;
@@ -9,20 +9,26 @@ use cursor::place::mark;
 use cursor::place::stop;
 use field_ranges::table::Range;
 
-// A number of the range. Above the range it is told all the same, with mark 1.
+// A number of the range, by how much it is above its lowest, where its bits end at c. Above the range it is told all the same, with mark 1.
+pub fn from_lowest(c: Cursor, above: u64, range: Range) -> Got
+    ensures { λ r. ⌜ FromLowest range c above r ⌝ }
+{
+    let top = std::num::wrapping_sub_u64(range.hi, range.lo);
+    let v = std::num::wrapping_add_u64(range.lo, above);
+    if above <= top {
+        return Got { v: v, c: c };
+    }
+    let m = mark(c, 1);
+    Got { v: v, c: m }
+}
+
+// The next number of the range.
 pub fn ranged(s: &[u8], c: Cursor, range: Range) -> Got
     requires { ⌜ Listed range ⌝ }
     ensures { λ r. ⌜ Ranged (range .row) (now (s .entry)) c r ⌝ }
 {
-    let top = std::num::wrapping_sub_u64(range.hi, range.lo);
     let g = bits(s, c, range.width);
-    let v = std::num::wrapping_add_u64(range.lo, g.v);
-    let d = g.c;
-    if g.v <= top {
-        return Got { v: v, c: d };
-    }
-    let m = mark(d, 1);
-    Got { v: v, c: m }
+    from_lowest(g.c, g.v, range)
 }
 
 // A name of the range, which begins at 0. Above it there is no name: badly formed, with mark 1.
