@@ -3,13 +3,17 @@ ghost use Prim.Native.Nat.{_<_, _^_};
 ghost use Rattle.records.specs.Told.{Told};
 ghost use Rattle.date_times.specs.Times.{DateTimes, dateTimeRecs};
 use cursor::place::Cursor;
+use cursor::place::bits;
 use field_ranges::table::DAY;
 use field_ranges::table::HOURS;
 use field_ranges::table::MINUTES;
 use field_ranges::table::MONTH;
 use field_ranges::table::YEAR;
-use ranged_numbers::ranged;
+use numbers::one_by_one;
+use ranged_numbers::from_lowest;
 use records::emit;
+
+mod numbers; // numbers.rt: the six numbers one by one
 
 pub struct DateTime {
     pub year: u64,
@@ -25,25 +29,35 @@ pub struct DateTimeAt {
     pub c: Cursor,
 }
 
+// Where the window has all of it, two reads: 21 bits up to the hours, 12 behind them. Else its numbers are read one by one, so that the reading stops at the one that lacks bits.
 pub fn read_date_time(s: &[u8], c: Cursor) -> DateTimeAt
     ensures { λ r. ⌜ DateTimes (now (s .entry)) c r ⌝ }
 {
-    let year = ranged(s, c, YEAR);
-    let month = ranged(s, year.c, MONTH);
-    let day = ranged(s, month.c, DAY);
-    let hours = ranged(s, day.c, HOURS);
-    let minutes = ranged(s, hours.c, MINUTES);
-    let seconds = ranged(s, minutes.c, MINUTES);
-    let end = seconds.c;
-    let time = DateTime {
-        year: year.v,
-        month: month.v,
-        day: day.v,
-        hours: hours.v,
-        minutes: minutes.v,
-        seconds: seconds.v,
-    };
-    DateTimeAt { time: time, c: end }
+    let first = bits(s, c, 21);
+    let d = first.c;
+    if d.why == 0 {
+        let second = bits(s, d, 12);
+        let e = second.c;
+        if e.why == 0 {
+            let year = from_lowest(e, first.v / 16384, YEAR);
+            let month = from_lowest(year.c, first.v / 1024 % 16, MONTH);
+            let day = from_lowest(month.c, first.v / 32 % 32, DAY);
+            let hours = from_lowest(day.c, first.v % 32, HOURS);
+            let minutes = from_lowest(hours.c, second.v / 64, MINUTES);
+            let seconds = from_lowest(minutes.c, second.v % 64, MINUTES);
+            let end = seconds.c;
+            let time = DateTime {
+                year: year.v,
+                month: month.v,
+                day: day.v,
+                hours: hours.v,
+                minutes: minutes.v,
+                seconds: seconds.v,
+            };
+            return DateTimeAt { time: time, c: end };
+        }
+    }
+    one_by_one(s, c)
 }
 
 // It stands outside the elements.
