@@ -2,27 +2,20 @@
 use mathlib.Core.Path.{_≡_, refl, sym, ap, _∙_}
 use mathlib.Core.Bool.{Bool, true, false}
 use mathlib.Core.List.{List, [], _∷_, _++_, append-assoc, append-nil}
-use Prim.Native.Nat.{ℕ, zero, suc, _+_, _-_, _*_, _/_, _^_, _≤_, _<_}
-use native.Mathlib.Nat.{zero-mul, suc-mul, add-mul, mul-assoc, mul-comm, add-zero, add-suc, suc-add, pow-suc, pow-le-pow-right, mul-le-mul-right}
-use native.Mathlib.Numerals.{add-one}
+use Prim.Native.Nat.{ℕ, zero, suc, _+_, _-_, _*_, _/_, _≤_, _<_}
+use native.Mathlib.Nat.{suc-mul, add-zero, add-suc, suc-add}
 use native.Mathlib.Omega.{arith}
 use lib.ListN.{length, drop, length-append}
-use lib.Dec.{ltb, lit<}
+use lib.Dec.{ltb}
 use borrow.Author.Tests.{ltb-true, ltb-false}
 use Rattle.x691.specs.Bits.{bitOf, uint}
-use Rattle.per.proofs.Laws.{uint-below}
 use Rattle.atn.specs.Reading.{Rec, rec, octets, packs, pack, coded, units}
 use Rattle.records.specs.Told.{Told}
 use Rattle.records.proofs.Telling.{told-none, told-then, told-within, told-length}
 use Rattle.tell.specs.declared.characters.Run.{Run}
-use Rattle.tell.specs.Characters.{from, Spelt, Character}
+use Rattle.tell.specs.Characters.{from}
 
 ---------------------------------------------------------------- characters
-
-octets-none : (k : ℕ) → octets k [] ≡ 0
-unfolding octets
-octets-none zero = refl
-octets-none (suc k) = refl
 
 length-coded : (b : ℕ → ℕ) (w c at n : ℕ) → length (coded c (units b w at n)) ≡ n
 unfolding coded units
@@ -55,58 +48,6 @@ module _ (s : List ℕ) (r : Run) where
       go : (t : Bool) → ltb i (r .len) ≡ t → drop k (from s r (suc i)) ≡ from s r (suc i + k) → drop (suc k) (from s r i) ≡ from s r (i + suc k)
       go true q h = rw (from-next i (ltb-true i _ q), add-suc, ← suc-add) h
       go false q h = let l : r .len ≤ i = ltb-false i _ q in rw (from-none i l, from-none (i + suc k) (omega arith))
-
-  -- a character's bits are among the others'
-  pub place-in : (i : ℕ) → i < r .len → r .at + i * r .width + r .width ≤ r .at + r .len * r .width
-  place-in i h = omega (arith, suc-mul i (r .width), mul-le-mul-right {m = suc i} {n = r .len} (r .width) h)
-
-module _ {s : List ℕ} {r : Run} {i : ℕ} where
-  pub character-here : {v : ℕ} → Spelt s r → i < r .len → v ≡ uint (bitOf s) (r .at + i * r .width) (r .width) → Character s r i (r .first + v)
-  unfolding octets
-  character-here {v} z h q =
-      record {
-        octet = omega (arith, z .octet, uint-below s (r .at + i * r .width) (r .width));
-        front = λ k. rw (from-next s r i h, q);
-      }
-
-  pub character-none : r .len ≤ i → Character s r i 0
-  character-none h =
-      record {
-        octet = omega arith;
-        front = λ k. rw (from-none s r i h, from-none s r (suc i) (omega arith), octets-none (suc k), octets-none k, zero-mul (256 ^ k));
-      }
-
----------------------------------------------------------------- eight characters
-
--- v is the number of the first k of the eight characters from i on
-pub record Part (s : List ℕ) (r : Run) (i k v : ℕ) : Type 0 where
-  pub below : v < 256 ^ k
-  pub sum : v * 256 ^ (8 - k) + octets (8 - k) (from s r (i + k)) ≡ octets 8 (from s r i)
-
-module _ {s : List ℕ} {r : Run} {i : ℕ} where
-  pub part-none : Part s r i 0 0
-  part-none = record { below = lit< tt; sum = rw (add-zero i) (omega arith) }
-
-  pub part-fits : {k v : ℕ} → k < 8 → Part s r i k v → v < 256 ^ 7
-  part-fits {k} h p = omega (arith, p .below, pow-le-pow-right {n = 256} (lit< tt) {i = k} {j = 7} (omega arith))
-
-  pub part-more : {k v c : ℕ} → k < 8 → Part s r i k v → Character s r (i + k) c → Part s r i (k + 1) (v * 256 + c)
-  part-more {k} {v} {c} h p x =
-      let j : ℕ = 8 - (k + 1) in
-      let e : 8 - k ≡ suc j = omega arith in
-      let f : i + (k + 1) ≡ suc (i + k) = omega arith in
-      let a : v * 256 ^ suc j + octets (suc j) (from s r (i + k)) ≡ octets 8 (from s r i) = rw e at (p .sum) in
-      record {
-        below = rw (add-one k, pow-suc 256 k) (omega (arith, p .below, x .octet));
-        sum = rw f (omega (arith, a, x .front j, pow-suc 256 j, add-mul (v * 256) c (256 ^ j), mul-assoc v 256 (256 ^ j), ap (λ (y : ℕ). v * y) (pow-suc 256 j ∙ mul-comm (256 ^ j) 256)));
-      }
-
-  pub part-all : {k v : ℕ} → 8 ≤ k → k ≤ 8 → Part s r i k v → v ≡ octets 8 (from s r i)
-  unfolding octets
-  part-all {k} {v} g h p =
-      let e : k ≡ 8 = omega arith in
-      let a : v * 256 ^ 0 + 0 ≡ octets 8 (from s r i) = rw e at (p .sum) in
-      omega arith
 
 ---------------------------------------------------------------- the records of all characters
 

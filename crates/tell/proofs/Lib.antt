@@ -1,2 +1,4 @@
+pub mod WideningLaws
+pub mod EightLaws
 pub mod CharacterLaws
 pub mod TextsTold

@@ -1,10 +1,9 @@
 -- Characters by where they stand.
-use mathlib.Core.Path.{_≡_}
 use mathlib.Core.List.{List}
-use Prim.Native.Nat.{ℕ, suc, _+_, _-_, _*_, _^_, _≤_, _<_}
+use Prim.Native.Nat.{ℕ, zero, suc, _+_, _-_, _*_, _/_, _%_, _^_, _≤_, _<_}
 use lib.ListN.{length}
 use Rattle.x691.specs.Bits.{bitOf}
-use Rattle.atn.specs.Reading.{octets, coded, units}
+use Rattle.atn.specs.Reading.{coded, units}
 use Rattle.tell.specs.declared.characters.Run.{Run}
 
 -- the characters from the one numbered i on
@@ -18,7 +17,7 @@ pub record Spelt (s : List ℕ) (r : Run) : Type 0 where
   pub narrow : r .width ≤ 8
   pub octet : r .first + 2 ^ r .width ≤ 256
 
--- c is the octet of the character i
-pub record Character (s : List ℕ) (r : Run) (i c : ℕ) : Type 0 where
-  pub octet : c < 256
-  pub front : (k : ℕ) → octets (suc k) (from s r i) ≡ c * 256 ^ k + octets k (from s r (suc i))
+-- the n lowest numbers of w bits in v, put into l bits each
+unfoldable pub widened : ℕ → ℕ → ℕ → ℕ → ℕ
+widened w l zero v = 0
+widened w l (suc n) v = widened w l n (v / 2 ^ w) * 2 ^ l + v % 2 ^ w

@@ -1,9 +1,10 @@
 // Characters by where they stand, whatever their alphabet.
 ghost use mathlib.Core.Path.{_≡_};
-ghost use Prim.Native.Nat.{_+_, _/_, _<_, _^_};
+ghost use Prim.Native.Nat.{min, _+_, _/_, _<_, _^_};
 ghost use Rattle.atn.specs.Reading.{octets, pack};
 ghost use Rattle.records.specs.Told.{Told};
-ghost use Rattle.tell.specs.Characters.{Spelt, Character, from};
+ghost use Rattle.tell.specs.Characters.{Spelt, from};
+use super::spread::spread;
 use per::number::uint;
 use records::emit;
 
@@ -14,6 +15,9 @@ pub struct Run {
     pub width: usize,
     pub first: u64,
 }
+
+// A one in each octet.
+const ONES: u64 = 0x0101_0101_0101_0101;
 
 // All characters, eight to a record, with their number as the second number.
 pub fn tell_run(words: &mut [u64], n: usize, tag: u64, element: u64, s: &[u8], r: Run) -> usize
@@ -33,27 +37,22 @@ pub fn tell_run(words: &mut [u64], n: usize, tag: u64, element: u64, s: &[u8], r
 
 // The eight characters from i on as one number, the first in the highest octet, and zero for each that is missing.
 fn eight(s: &[u8], r: Run, i: usize) -> u64
-    requires { ⌜ (i < 2 ^ 32) × Spelt (now s) r ⌝ }
+    requires { ⌜ (i < r .len) × Spelt (now s) r ⌝ }
     ensures { λ v. ⌜ v ≡ octets 8 (from (now (s .entry)) r i) ⌝ }
 {
-    let mut v: u64 = 0;
-    let mut k: usize = 0;
-    while k < 8 {
-        v = v * 256 + character(s, r, i + k);
-        k += 1;
-    }
-    v
+    let width = r.width;
+    let k = at_most_eight(r.len - i);
+    let v = spread(uint(s, r.at + i * width, k * width), width);
+    // the codes count from `first`, and the octets of the characters that are missing come last
+    let missing = 64 - 8 * k;
+    (v + r.first * (ONES >> missing)) << missing
 }
 
-// The code of the character i, or zero behind the last.
-fn character(s: &[u8], r: Run, i: usize) -> u64
-    requires { ⌜ Spelt (now s) r ⌝ }
-    ensures { λ c. ⌜ Character (now (s .entry)) r i c ⌝ }
+fn at_most_eight(n: usize) -> usize
+    ensures { λ k. ⌜ k ≡ min 8 n ⌝ }
 {
-    let at = r.at;
-    let width = r.width;
-    if i < r.len {
-        return r.first + uint(s, at + i * width, width);
+    if n < 8 {
+        return n;
     }
-    0
+    8
 }

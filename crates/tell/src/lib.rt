@@ -7,6 +7,7 @@ use characters::Run;
 use characters::tell_run;
 
 mod characters; // characters.rt: characters by where they stand, whatever their alphabet
+mod spread; // spread.rt: characters of fewer bits, put into octets
 
 // A text of seven-bit characters.
 pub fn tell_text(words: &mut [u64], n: usize, tag: u64, element: u64, s: &[u8], x: Text) -> usize

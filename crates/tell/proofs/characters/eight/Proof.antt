@@ -1,36 +1,50 @@
--- The loop keeps the number of the characters passed.
-use Prim.Native.Nat.{_≤_, _-_}
 use native.Mathlib.Omega.{arith}
 use borrow.Author.Needs.{needs}
-use Rattle.tell.proofs.CharacterLaws.{Part, part-none, part-fits, part-more, part-all}
+use lib.Pow.{pow-mono}
+use Rattle.tell.proofs.WideningLaws.{ones}
+use Rattle.tell.proofs.EightLaws.{Placed, Packed, eight-placed, eight-packed}
 use Rattle.tell.proofs.characters.eight.Statement.{statement}
 use Rattle.tell.proofs.characters.eight.Tie as tie
 
-abbrev Inv-loop : tie.InvT-loop
-Inv-loop s r i v₀ k₀ v k = (k ≤ 8) × Part s r i k v
+placed : (c : tie.After-at-most-eight) → let a = c .before .before .before .args in Placed (a .s .now) (a .r) (a .i) (c .at-most-eight .result)
+placed c = let b = c .before .before .before in eight-placed (b .args .s .now) (b .args .r) (b .args .i) (b .pre .1) (b .pre .0) (c .at-most-eight .ensures)
 
-abbrev μ-loop : tie.MeasureT-loop
-μ-loop s r i v₀ k₀ v k = 8 - k
+packed : (c : tie.After-spread) → let a = c .before .before .before .before .before .before .args in Packed (a .s .now) (a .r) (a .i) (c .before .before .before .at-most-eight .result) (c .spread .result)
+packed c =
+    let b = c .before .before .before .before .before .before in
+    eight-packed (b .args .s .now) (b .args .r) (b .args .i) (b .pre .1) (b .pre .0) (c .before .before .before .at-most-eight .ensures)
+    (c .before .uint .ensures .0) (c .spread .ensures)
 
-loop-holds : tie.Need-loop-holds Inv-loop μ-loop
-loop-holds c = (omega arith, part-none)
+mul-uint : tie.Need-mul-uint
+mul-uint c = omega (arith, placed c)
 
-mul-v : tie.Need-mul-v Inv-loop μ-loop
-mul-v c = omega (arith, part-fits (c .loop-test .taken) (c .before .loop .inv .1))
+add-uint : tie.Need-add-uint
+add-uint c = omega (arith, placed (c .before))
 
-character-requires : tie.Need-character-requires Inv-loop μ-loop
-character-requires c κs = c .before .before .before .pre .1
+mul-uint-2 : tie.Need-mul-uint-2
+mul-uint-2 c = omega (arith, placed (c .before))
 
-add-v : tie.Need-add-v Inv-loop μ-loop
-add-v c = omega (arith, part-fits (c .before .loop-test .taken) (c .before .before .loop .inv .1), c .character .ensures .octet)
+uint-requires : tie.Need-uint-requires
+uint-requires c κs = omega (arith, placed (c .before))
 
-loop-again : tie.Need-loop-again Inv-loop μ-loop
-loop-again c = (omega arith, part-more (c .before .loop-test .taken) (c .before .before .loop .inv .1) (c .character .ensures))
+spread-requires : tie.Need-spread-requires
+spread-requires c κs = (c .before .before .before .before .before .pre .1 .narrow, omega (arith, c .uint .ensures .1, pow-mono (placed (c .before .before) .few)))
 
-returns : tie.Need-returns Inv-loop μ-loop
-returns c = part-all (c .loop-test .left) (c .before .loop .inv .0) (c .before .loop .inv .1)
+mul-result : tie.Need-mul-result
+unfolding ones
+mul-result c = omega (arith, packed (c .before) .fits)
+
+add-result : tie.Need-add-result
+unfolding ones
+add-result c = omega (arith, packed (c .before) .fits)
+
+returns : tie.Need-returns
+unfolding ones
+returns c = packed (c .before) .all
 
 pub eight-spec : {M : Type 1} → statement M
 eight-spec =
     tie.close
-    (tie.spec Inv-loop μ-loop loop-holds mul-v (λ c. search needs) character-requires add-v (λ c. search needs) (λ c. search needs) loop-again returns)
+    (tie.spec
+    (λ c. search needs) (λ c κs. search needs) mul-uint add-uint mul-uint-2 uint-requires spread-requires
+    (λ c. search needs) (λ c. search needs) (λ c. search needs) mul-result add-result (λ c. search needs) returns)

@@ -15,7 +15,7 @@ loop-holds : tie.Need-loop-holds Inv-loop μ-loop
 loop-holds c = (omega arith, upto-none)
 
 eight-requires : tie.Need-eight-requires Inv-loop μ-loop
-eight-requires c κs = (omega (arith, c .before .before .before .before .pre .1), c .before .before .before .before .pre .2)
+eight-requires c κs = (c .loop-test .taken, c .before .before .before .before .pre .2)
 
 emit-requires : tie.Need-emit-requires Inv-loop μ-loop
 emit-requires c κs = omega (arith, c .before .before .before .loop .inv .1 .count, c .before .before .before .before .before .before .pre)
