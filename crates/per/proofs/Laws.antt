@@ -1,12 +1,12 @@
 -- Laws of the numbers that bits spell, each for every width.
-use mathlib.Core.Path.{_≡_, refl, ap}
+use mathlib.Core.Path.{_≡_, refl, ap, _∙_}
 use mathlib.Core.Bool.{Bool, true, false}
 use mathlib.Core.List.{List}
 use Prim.Native.Nat.{ℕ, zero, suc, _+_, _-_, _*_, _/_, _%_, _^_, _≤_, _<_}
 use native.Mathlib.Nat.{one-mul, mod-eq-of-lt, pow-suc, pow-le-pow-right, add-zero, add-suc, add-assoc, mul-assoc}
 use native.Mathlib.Numerals.{add-one}
 use native.Mathlib.Omega.{arith}
-use lib.ListN.{getD, take, drop}
+use lib.ListN.{length, getD, take, drop, List·getD-eq-default}
 use lib.Seq.{getD-take, getD-drop}
 use lib.Dec.{leb, lit<}
 use lib.Pow.{mod-pow-add, shr-shr, high, low, pow-lt, pow-pos}
@@ -58,16 +58,24 @@ uint-within s at o n r =
     rw (uint-split b at (o + n) r, high (uint b at (o + n)) r (uint-below s (at + (o + n)) r), uint-split b at o n, low (uint b at o) n (uint-below s (at + o) n))
 
 -- the machine's `1 << n`, by whose remainder the code keeps n bits
-one-shl : (n : ℕ) → n < 64 → 1 * 2 ^ n % 2 ^ 64 ≡ 2 ^ n
+pub one-shl : (n : ℕ) → n < 64 → 1 * 2 ^ n % 2 ^ 64 ≡ 2 ^ n
 one-shl n h = rw one-mul (mod-eq-of-lt (pow-lt h))
 
 pub one-shl-pos : (n : ℕ) → n < 64 → 0 < 1 * 2 ^ n % 2 ^ 64
 one-shl-pos n h = rw (one-shl n h) (pow-pos n)
 
--- what the code computes: v, the number of the k octets from octet i on, without the first o bits and the last r
-pub uint-cut : (s : List ℕ) (i o n r k : ℕ) {v : ℕ} → n < 64 → o + n + r ≡ 8 * k → v ≡ uint (bitOf s) (8 * i) (8 * k)
-    → v / 2 ^ r % (1 * 2 ^ n % 2 ^ 64) ≡ uint (bitOf s) (8 * i + o) n
-uint-cut s i o n r k h l e = rw (one-shl n h, e, uint-within s (8 * i) o n r, l)
+-- the code's shift: size - n less skip, as the machine subtracts and modulo 64, where v has the bits. It is 64 for no bits only.
+pub shifted : (v size skip n : ℕ) {w : ℕ} → w < 2 ^ 64 → size ≤ 64 → skip + n ≤ size → (w + skip) % 2 ^ 64 ≡ size - n
+    → v / 2 ^ (w % 64) % 2 ^ n ≡ v / 2 ^ (size - (skip + n)) % 2 ^ n
+shifted v size skip zero {w} k l b e = omega arith
+shifted v size skip (suc n) {w} k l b e = let f : w % 64 ≡ size - (skip + suc n) = omega arith in rw f
+
+-- r, cut out of v, the number of the k octets from octet i on, behind the first o bits
+pub uint-cut : (s : List ℕ) (at n i o k : ℕ) {v r : ℕ} → at ≡ 8 * i + o → o + n ≤ 8 * k → v ≡ uint (bitOf s) (8 * i) (8 * k)
+    → (o + n ≤ 8 * k → r ≡ v / 2 ^ (8 * k - (o + n)) % 2 ^ n) → r ≡ uint (bitOf s) at n
+uint-cut s at n i o k e l v r =
+    let f : o + n + (8 * k - (o + n)) ≡ 8 * k = omega arith in
+    rw (r l, e, v, uint-within s (8 * i) o n (8 * k - (o + n)), f)
 
 -- whole octets side by side
 pub octets-join : (s : List ℕ) (i j k : ℕ) → uint (bitOf s) (8 * i) (8 * j) * 2 ^ (8 * k) + uint (bitOf s) (8 * (i + j)) (8 * k) ≡ uint (bitOf s) (8 * i) (8 * (j + k))
@@ -96,6 +104,10 @@ uint-octet s i h =
     let e : 8 * i / 8 ≡ i = omega arith in
     let f : 8 - (8 * i % 8 + 8) ≡ 0 = omega arith in
     rw (within-octet s (8 * i) 8 (omega arith), e, f) (omega arith)
+
+-- and behind the last they spell 0
+pub uint-behind : (s : List ℕ) (i : ℕ) → length s ≤ i → uint (bitOf s) (8 * i) 8 ≡ 0
+uint-behind s i h = let z : getD s i 0 ≡ 0 = List·getD-eq-default s 0 h in uint-octet s i (omega arith) ∙ z
 
 -- a test that is true where a ≤ b and false where not
 pub leb-tells : (t : Bool) (a b : ℕ) → (t ≡ true → a ≤ b) → (t ≡ false → b < a) → t ≡ leb a b

@@ -1,37 +1,49 @@
-// The number that bits spell, the first the highest. A place is taken apart into an octet and the
-// bits to skip in it, so that no sum wraps, however long the frame.
+// The number that bits spell, the first the highest. It is cut out of four or eight octets, which one
+// load brings: those from the bits' own first octet on, or the slice's last.
 ghost use mathlib.Core.Path.{_≡_};
 ghost use Prim.Native.Nat.{_+_, _*_, _^_, _≤_, _<_};
 ghost use lib.ListN.{length};
 ghost use Rattle.x691.specs.Bits.{bitOf, uint};
-use super::octets::run;
+use super::cut::cut;
+use super::cut::first;
+use super::octets::eight;
 use super::octets::word;
+use super::seldom::many;
+use super::seldom::of_few;
 
-// The number that the n bits from `at` on spell.
+// The number that the n bits from `at` on spell, if they are there. If not it is any below 2 ^ n.
 pub fn uint(s: &[u8], at: usize, n: usize) -> u64
-    requires { ⌜ (n ≤ 64) × (at + n ≤ length (now s) * 8) ⌝ }
-    ensures { λ r. ⌜ (r ≡ uint (bitOf (now (s .entry))) at n) × (r < 2 ^ n) ⌝ }
+    requires { ⌜ n ≤ 64 ⌝ }
+    ensures { λ r. ⌜ (at + n ≤ length (now (s .entry)) * 8 → r ≡ uint (bitOf (now (s .entry))) at n) × (r < 2 ^ n) ⌝ }
 {
-    let i = at / 8;
-    let skip = at % 8;
     if n <= 25 {
-        if i + 4 <= s.len() {
-            // one word has all the bits, since skip + n is at most 32
-            return (word(s, i) >> (32 - (skip + n))) % (1 << n);
+        if 4 <= s.len() {
+            return near(s, at, n);
         }
     }
-    if n <= 57 {
-        return part(s, i, skip, n);
-    }
-    // up to nine octets, too many for a u64: 32 bits, and the others four octets on
-    (part(s, i, skip, 32) << (n - 32)) + part(s, i + 4, skip, n - 32)
+    wide(s, at, n)
 }
 
-// The number of the n bits behind the first `skip` of octet i, few enough to lie in eight octets.
-fn part(s: &[u8], i: usize, skip: usize, n: usize) -> u64
-    requires { ⌜ (skip < 8) × (n ≤ 57) × (8 * i + skip + n ≤ length (now s) * 8) ⌝ }
-    ensures { λ r. ⌜ r ≡ uint (bitOf (now (s .entry))) (8 * i + skip) n ⌝ }
+// Few bits, out of four octets.
+fn near(s: &[u8], at: usize, n: usize) -> u64
+    requires { ⌜ (n ≤ 25) × (4 ≤ length (now s)) ⌝ }
+    ensures { λ r. ⌜ (at + n ≤ length (now (s .entry)) * 8 → r ≡ uint (bitOf (now (s .entry))) at n) × (r < 2 ^ n) ⌝ }
 {
-    let count = (skip + n + 7) / 8;
-    (run(s, i, count) >> (8 * count - (skip + n))) % (1 << n)
+    let i = first(s, at, 4);
+    cut(word(s, i), 32, at - i * 8, n)
+}
+
+// Many bits, or a slice of few octets.
+pub fn wide(s: &[u8], at: usize, n: usize) -> u64
+    requires { ⌜ n ≤ 64 ⌝ }
+    ensures { λ r. ⌜ (at + n ≤ length (now (s .entry)) * 8 → r ≡ uint (bitOf (now (s .entry))) at n) × (r < 2 ^ n) ⌝ }
+{
+    if s.len() < 8 {
+        return of_few(s, at, n);
+    }
+    if n <= 57 {
+        let i = first(s, at, 8);
+        return cut(eight(s, i), 64, at - i * 8, n);
+    }
+    many(s, at, n)
 }
