@@ -3,7 +3,6 @@ ghost use mathlib.Core.Path.{_≡_};
 ghost use Prim.Native.Nat.{_+_, _≤_};
 ghost use Rattle.cursor.specs.Place.{Pulls, Opens, stopped, marked};
 use per::number::uint;
-use per::room::holds;
 
 pub struct Cursor {
     pub at: usize,
@@ -17,7 +16,7 @@ pub struct Got {
     pub c: Cursor,
 }
 
-// The next n bits as a number. Where the window is too short for them it says so and does not move.
+// The next n bits as a number. Where the window is too short for them it says so and does not move. That the cursor is in its window, and that in the frame, is not tested: what it gives elsewhere nobody may use.
 pub fn bits(s: &[u8], c: Cursor, n: usize) -> Got
     requires { ⌜ n ≤ 64 ⌝ }
     ensures { λ r. ⌜ Pulls (now (s .entry)) c n r ⌝ }
@@ -28,21 +27,17 @@ pub fn bits(s: &[u8], c: Cursor, n: usize) -> Got
     if c.why != 0 {
         return Got { v: 0, c: c };
     }
-    if at <= end {
-        if n <= end - at {
-            if holds(s, end) {
-                let v = uint(s, at, n);
-                return Got {
-                    v: v,
-                    c: Cursor {
-                        at: at + n,
-                        end: end,
-                        why: 0,
-                        marks: marks,
-                    },
-                };
-            }
-        }
+    if n <= std::num::wrapping_sub_usize(end, at) {
+        let v = uint(s, at, n);
+        return Got {
+            v: v,
+            c: Cursor {
+                at: std::num::wrapping_add_usize(at, n),
+                end: end,
+                why: 0,
+                marks: marks,
+            },
+        };
     }
     Got {
         v: 0,
