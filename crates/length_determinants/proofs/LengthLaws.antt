@@ -253,14 +253,33 @@ module _ {s : List ℕ} {c : Cursor} where
   measures-in l e x = record { then = λ k y. simp zero-add at (x .then k 8193 (omega arith) y); few = x .few }
 
   -- outside the window, or the frame, nothing is owed
+  measures-where : {r : Measured} → r .count ≤ 2 ^ 30 → (Inside s c → Measures s c r) → Measures s c r
+  measures-where f h = record { then = λ k y. record { led = λ i. h i .then k y .led i }; few = f }
+
   measures-out : (Inside s c → ⊥) → Measures s c (record { count = 0; c = c })
-  measures-out h = record { then = λ k y. record { led = λ i. absurd (h i) }; few = omega arith }
+  measures-out h = measures-where (omega arith) (λ i. absurd (h i))
 
   pub measures-off : c .end < c .at → Measures s c (record { count = 0; c = c })
   measures-off l = measures-out (λ i. omega (arith, i .0))
 
   pub measures-lost : length s * 8 < c .end → Measures s c (record { count = 0; c = c })
   measures-lost l = measures-out (λ i. omega (arith, i .1))
+
+  -- eight bits below 128 are a bit that is clear and seven bits
+  pub measures-short : {g : Got} → Pulls s c 8 g → g .c .why ≡ 0 → g .v < 128 → Measures s c (record { count = g .v; c = g .c })
+  unfolding lengthThen
+  measures-short {g} x z l = measures-where (omega arith) (λ i. go i (x .gave i))
+    where
+      go : Inside s c → Pulled s c 8 g → Measures s c (record { count = g .v; c = g .c })
+      go i (stuck h q) = absurd (h (rw q at z))
+      go i (short y o q) = absurd (let w : _≡_ {A = ℕ} 4 0 = rw q at z in omega arith)
+      go i (got y o v q) =
+          let e : uint (bitOf s) (c .at) 8 ≡ uint (bitOf s) (c .at) 1 * 2 ^ 7 + uint (bitOf s) (c .at + 1) 7 = uint-split (bitOf s) (c .at) 1 7 in
+          let form : Got = record { v = uint (bitOf s) (c .at) 1; c = put c (c .at + 1) 0 (c .marks) } in
+          let a : Pulls s c 1 form = record { gave = λ _. got y (omega arith) refl refl } in
+          let b : Pulls s (form .c) 7 g = record { gave = λ _. got refl (omega arith) (omega arith) (q ∙ ap (λ (p : ℕ). put c p 0 (c .marks)) (omega arith)) } in
+          let h : Ends s c (g .v) (g .c) = head-short i a (omega arith) (record { pulls = b; below = λ _. omega arith; there = λ _. z }) in
+          record { then = λ k r. h .then k 8192 r; few = omega arith }
 
   -- the cursor behind a length stands in the same window
   pub measures-inside : {r : Measured} → Measures s c r → Inside s c → Inside s (r .c) × (r .c .end ≡ c .end)

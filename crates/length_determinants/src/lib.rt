@@ -87,8 +87,26 @@ fn count(s: &[u8], c: Cursor, sum: usize) -> Measured
     }
 }
 
-// The length determinant: the sum of all lengths in a row.
+// The length determinant: the sum of all lengths in a row. Eight bits that are below 128 are one length in the short form, and all.
 pub fn length(s: &[u8], c: Cursor) -> Measured
+    requires { ⌜ length (now s) ≤ 8192 ⌝ }
+    ensures { λ r. ⌜ Measures (now (s .entry)) c r ⌝ }
+{
+    let short = bits(s, c, 8);
+    let d = short.c;
+    if d.why == 0 {
+        if short.v < 128 {
+            return Measured {
+                count: short.v as usize,
+                c: d,
+            };
+        }
+    }
+    any_form(s, c)
+}
+
+// The length determinant, in whatever form its lengths are.
+fn any_form(s: &[u8], c: Cursor) -> Measured
     requires { ⌜ length (now s) ≤ 8192 ⌝ }
     ensures { λ r. ⌜ Measures (now (s .entry)) c r ⌝ }
 {
