@@ -5,7 +5,7 @@ ghost use Rattle.atn.specs.Reading.{octets, pack};
 ghost use Rattle.records.specs.Told.{Told};
 ghost use Rattle.tell.specs.Characters.{Spelt, from};
 use super::spread::spread;
-use per::number::uint;
+use per::number::wide;
 use records::emit;
 
 // The place of the first character's bit, the number of characters, the bits of each, and the code of the first of the alphabet.
@@ -42,7 +42,7 @@ fn eight(s: &[u8], r: Run, i: usize) -> u64
 {
     let width = r.width;
     let k = at_most_eight(r.len - i);
-    let v = spread(uint(s, r.at + i * width, k * width), width);
+    let v = spread(wide(s, r.at + i * width, k * width), width);
     // the codes count from `first`, and the octets of the characters that are missing come last
     let missing = 64 - 8 * k;
     (v + r.first * (ONES >> missing)) << missing

@@ -13,22 +13,22 @@ packed : (c : tie.After-spread) → let a = c .before .before .before .before .b
 packed c =
     let b = c .before .before .before .before .before .before in
     eight-packed (b .args .s .now) (b .args .r) (b .args .i) (b .pre .1) (b .pre .0) (c .before .before .before .at-most-eight .ensures)
-    (c .before .uint .ensures .0) (c .spread .ensures)
+    (c .before .wide .ensures .0 (omega (arith, placed (c .before .before .before) .there))) (c .spread .ensures)
 
-mul-uint : tie.Need-mul-uint
-mul-uint c = omega (arith, placed c)
+mul-wide : tie.Need-mul-wide
+mul-wide c = omega (arith, placed c)
 
-add-uint : tie.Need-add-uint
-add-uint c = omega (arith, placed (c .before))
+add-wide : tie.Need-add-wide
+add-wide c = omega (arith, placed (c .before))
 
-mul-uint-2 : tie.Need-mul-uint-2
-mul-uint-2 c = omega (arith, placed (c .before))
+mul-wide-2 : tie.Need-mul-wide-2
+mul-wide-2 c = omega (arith, placed (c .before))
 
-uint-requires : tie.Need-uint-requires
-uint-requires c κs = omega (arith, placed (c .before))
+wide-requires : tie.Need-wide-requires
+wide-requires c κs = omega (arith, placed (c .before))
 
 spread-requires : tie.Need-spread-requires
-spread-requires c κs = (c .before .before .before .before .before .pre .1 .narrow, omega (arith, c .uint .ensures .1, pow-mono (placed (c .before .before) .few)))
+spread-requires c κs = (c .before .before .before .before .before .pre .1 .narrow, omega (arith, c .wide .ensures .1, pow-mono (placed (c .before .before) .few)))
 
 mul-result : tie.Need-mul-result
 unfolding ones
@@ -46,5 +46,5 @@ pub eight-spec : {M : Type 1} → statement M
 eight-spec =
     tie.close
     (tie.spec
-    (λ c. search needs) (λ c κs. search needs) mul-uint add-uint mul-uint-2 uint-requires spread-requires
+    (λ c. search needs) (λ c κs. search needs) mul-wide add-wide mul-wide-2 wide-requires spread-requires
     (λ c. search needs) (λ c. search needs) (λ c. search needs) mul-result add-result (λ c. search needs) returns)
