@@ -7,6 +7,7 @@ ghost use Rattle.x691.specs.Bits.{bitOf, uint};
 use super::cut::cut;
 use super::cut::first;
 use super::octets::eight;
+use super::octets::octet_or_zero;
 use super::octets::word;
 use super::seldom::many;
 use super::seldom::of_few;
@@ -38,6 +39,10 @@ pub fn wide(s: &[u8], at: usize, n: usize) -> u64
     requires { ⌜ n ≤ 64 ⌝ }
     ensures { λ r. ⌜ (at + n ≤ length (now (s .entry)) * 8 → r ≡ uint (bitOf (now (s .entry))) at n) × (r < 2 ^ n) ⌝ }
 {
+    let skip = at % 8;
+    if skip + n <= 8 {
+        return cut(octet_or_zero(s, at / 8), 8, skip, n);
+    }
     if s.len() < 8 {
         return of_few(s, at, n);
     }

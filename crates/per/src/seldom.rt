@@ -1,4 +1,4 @@
-// The number of bits where eight octets will not do: the slice has fewer, or the bits may lie in nine.
+// The number of bits where one octet or eight will not do: the slice has fewer, or the bits may lie in nine.
 ghost use mathlib.Core.Path.{_≡_};
 ghost use Prim.Native.Nat.{_+_, _*_, _^_, _≤_, _<_};
 ghost use lib.ListN.{length};
