@@ -5,6 +5,7 @@ ghost use mathlib.Core.List.{[], _∷_};
 ghost use Rattle.atn.specs.Reading.{rec};
 ghost use Rattle.records.specs.Told.{Told};
 
+pub mod front; // front.rt: a record at the front of what is lent
 pub mod space; // space.rt: how many words records take
 
 // The words of a record.
@@ -18,10 +19,7 @@ pub fn emit(words: &mut [u64], n: usize, tag: u64, element: u64, value: u64, sec
 {
     let at = space::words_for(n);
     if at + WORDS <= words.len() {
-        words[at] = tag;
-        words[at + 1] = element;
-        words[at + 2] = value;
-        words[at + 3] = second;
+        front::put_record(&mut words[at..], tag, element, value, second);
     }
     n + 1
 }
