@@ -10,7 +10,7 @@ use cm_parts::parts::Step;
 use cm_pdus::pdu;
 use cursor::place::Cursor;
 use records::space::words_for;
-use spare_words::SPARE;
+use spare_words::CM_SPARE;
 use spare_words::copy;
 
 // The bytes of the longest frame.
@@ -42,7 +42,7 @@ fn parse(frame: &[u8], words: &mut [u64], ground: bool) -> Answer
         marks: 0,
     };
     let first = Step { c: start, n: 0 };
-    let mut spare = [0u64; SPARE];
+    let mut spare = [0u64; CM_SPARE];
     let tried = pdu(&mut spare, first, frame, ground);
     let c = tried.c;
     if c.why != 0 {
@@ -52,7 +52,7 @@ fn parse(frame: &[u8], words: &mut [u64], ground: bool) -> Answer
     if words.len() < need {
         return refused(7, c.at, need);
     }
-    if need <= SPARE {
+    if need <= CM_SPARE {
         copy(&spare[..need], words);
         return accepted(c.at, c.marks, tried.n);
     }

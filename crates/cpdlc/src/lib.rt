@@ -7,7 +7,7 @@ use answers::Answer;
 use cpdlc_frames::answer_frame;
 use cpdlc_frames::try_frame;
 use lent_tables::tables_fit;
-use spare_words::SPARE;
+use spare_words::CPDLC_SPARE;
 use verdicts::Verdict;
 use verdicts::after_bad;
 use verdicts::after_out;
@@ -28,7 +28,7 @@ pub fn parse_pdus(frame: &[u8], direction: u64, down: &[u8], up: &[u8], words: &
     if 1 < direction {
         return refused(3);
     }
-    let mut spare = [0u64; SPARE];
+    let mut spare = [0u64; CPDLC_SPARE];
     let v = try_frame(frame, &mut spare, direction, down, up);
     answer_frame(frame, words, &spare, direction, down, up, v)
 }
@@ -43,7 +43,7 @@ pub fn parse_apdu(frame: &[u8], down: &[u8], up: &[u8], words: &mut [u64]) -> An
     if !tables_fit(down, up) {
         return refused(2);
     }
-    let mut spare = [0u64; SPARE];
+    let mut spare = [0u64; CPDLC_SPARE];
     let v = try_frame(frame, &mut spare, 0, down, up);
     if v.why == 4 {
         let u = try_frame(frame, &mut spare, 1, down, up);

@@ -4,8 +4,9 @@ ghost use mathlib.Core.Path.{_≡_};
 ghost use Prim.Native.Nat.{_≤_};
 ghost use lib.ListN.{length, drop};
 
-// How many there are: enough for the records of most messages.
-pub const SPARE: usize = 128;
+// How many there are: enough for the records of most messages, 48 of CPDLC and 24 of CM.
+pub const CPDLC_SPARE: usize = 192;
+pub const CM_SPARE: usize = 96;
 
 // All of `from` at the front of `to`.
 pub fn copy(from: &[u64], to: &mut [u64])

@@ -24,8 +24,8 @@ returns-3 c =
     let first = c .before .before .before .before .before .before .before .pdu .ensures in
     record { is = rw (c .refused3 .ensures) (enter-reads _ (c .before .before .before .before .before .before .before .before .before .before .before .before .args .frame .now) (c .before .before .before .before .before .before .before .before .before .before .before .before .args .words .now) (c .before .before .before .before .before .before .before .before .before .if1 .left) refl (settle-full refl (frame-accepted (first .reads) (c .before .before .before .if2 .left)) (counted (first .told)) (c .before .before .words-for .ensures) (c .before .if3 .taken))) }
 
--- what fits 128 words fits the spare ones
-fits : (n : ℕ) (k : List ℕ) → n ≤ 128 → length k ≡ 128 → n ≤ length k
+-- what fits 96 words fits the spare ones
+fits : (n : ℕ) (k : List ℕ) → n ≤ 96 → length k ≡ 96 → n ≤ length k
 fits n k l e = omega arith
 
 array-share-prefix-spare : tie.Need-array-share-prefix-spare
