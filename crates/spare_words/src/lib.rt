@@ -6,6 +6,7 @@ ghost use lib.ListN.{length, drop};
 
 // How many there are: enough for the records of most messages, 48 of CPDLC and 24 of CM.
 pub const CPDLC_SPARE: usize = 192;
+
 pub const CM_SPARE: usize = 96;
 
 // All of `from` at the front of `to`.
