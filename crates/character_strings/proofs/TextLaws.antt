@@ -71,6 +71,7 @@ module _ {r : Range} (z : SizeRow r) where
       let n : leb (lowest (r .row) + g .v % 256) (highest (r .row)) ≡ true = rw (← w, ← ends .1) (le-leb v _ l) in
       record {
         size = λ K y. sized-then _ (lowest (r .row)) (highest (r .row)) K (pulled g p) (marked-nil (g .c) ∙ rw n) (rw w at y);
+        least = omega (arith, w);
         few = omega (arith, z .ordered, z .most);
       }
 
@@ -81,6 +82,7 @@ module _ {r : Range} (z : SizeRow r) where
       let n : leb (lowest (r .row) + g .v % 256) (highest (r .row)) ≡ false = rw (← w, ← ends .1) (lt-leb v _ l) in
       record {
         size = λ K y. sized-then _ (lowest (r .row)) (highest (r .row)) K (pulled g p) (e ∙ rw n) (rw w at y);
+        least = omega (arith, w);
         few = omega (arith, z .ordered, z .most);
       }
 

@@ -20,6 +20,9 @@ use Rattle.runs.specs.Runs.{Runs}
 use Rattle.runs.proofs.FrameLaws.{soft-went, soft-out, soft-bad}
 use Rattle.runs.proofs.RunLaws.{runs-stayed, runs-within}
 
+pub integrity-lost : {s : List ℕ} {c : Cursor} {n : ℕ} {w : List ℕ} → (c .why ≡ 0 → ⊥) → Runs 1 (integrity s) s c n w w (record { n = n; c = c })
+integrity-lost {s} h = runs-within 1 (integrity s) (omega arith) (runs-stayed (integrity s) h)
+
 module _ {s : List ℕ} {c d : Cursor} {l : Measured} (measures : Measures s c l) (passes : Passes (l .c) (l .count) d) where
   abbrev reading : ℕ → ℕ → Ans
   reading e p = read (anySpan 18 1) (0, 0) (bitOf s) e p
@@ -29,9 +32,6 @@ module _ {s : List ℕ} {c d : Cursor} {l : Measured} (measures : Measures s c l
       let z : l .count * 1 ≡ l .count = omega arith in
       let t : Takes (anySpan 18 1) s c d (λ n. spanned 18 n (l .c .at) (l .count * 1)) = takes-any-span 18 1 measures (rw z passes) in
       rw z at (t .took (0, 0) .led i)
-
-  pub integrity-lost : {n : ℕ} {w : List ℕ} → (c .why ≡ 0 → ⊥) → Runs 1 (integrity s) s c n w w (record { n = n; c = c })
-  integrity-lost h = runs-within 1 (integrity s) (omega arith) (runs-stayed (integrity s) h)
 
   pub integrity-cut : {n : ℕ} {w : List ℕ} → c .why ≡ 0 → d .why ≡ 4 → Runs 1 (integrity s) s c n w w (record { n = n; c = put d (d .at) 7 (d .marks) })
   unfolding integrity read

@@ -14,6 +14,9 @@ pub fn read_integrity(s: &[u8], words: &mut [u64], n: usize, c: Cursor) -> At
     requires { ⌜ (length (now s) ≤ 8192) × (n < 2 ^ 31) ⌝ }
     ensures { λ r. ⌜ Runs 1 (integrity (now (s .entry))) (now (s .entry)) c n (now (words .entry)) (now (words .exit)) r ⌝ }
 {
+    if c.why != 0 {
+        return At { n: n, c: c };
+    }
     let l = length(s, c);
     let first = l.c;
     let at = first.at;
@@ -21,9 +24,6 @@ pub fn read_integrity(s: &[u8], words: &mut [u64], n: usize, c: Cursor) -> At
     let place = end.at;
     let window = end.end;
     let marks = end.marks;
-    if c.why != 0 {
-        return At { n: n, c: c };
-    }
     if end.why == 4 {
         let cut = Cursor {
             at: place,
