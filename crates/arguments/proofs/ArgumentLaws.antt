@@ -1,11 +1,10 @@
 -- Arguments by their bytes.
-use mathlib.Core.Path.{_≡_, refl}
+use mathlib.Core.Path.{_≡_}
 use mathlib.Core.List.{List}
 use Prim.Native.Nat.{ℕ, zero, suc, _≤_}
 use native.Mathlib.Omega.{arith}
 use lib.ListN.{List·getD-eq-default}
 use Rattle.atn.specs.Format.{bad}
-use Rattle.atn.specs.Messages.{argumentOf}
 use Rattle.atn.specs.Messages as message
 use Rattle.cursor.specs.declared.place.Cursor.{Cursor}
 use Rattle.cursor.specs.Place.{stopped}
@@ -13,17 +12,6 @@ use Rattle.cursor.proofs.FormatLaws.{takes-null, takes-refuse}
 use Rattle.argument_values.specs.declared.Argument.the-variants.{Nothing}
 use Rattle.argument_values.specs.declared.ArgumentAt.{ArgumentAt}
 use Rattle.argument_values.specs.Arguments.{argumentBody, argumentRecs, HeldArgument, Arguments}
-
--- what a byte above 0 stands for in a table is its argument, whose failure ends the walk
-pub argument-of : (k : ℕ) → argumentOf (suc k) ≡ message.argument (argumentBody (suc k))
-unfolding argumentOf argumentBody
-argument-of k = refl
-
-pub argument-none : argumentOf 0 ≡ argumentBody 0
-unfolding argumentOf argumentBody
-argument-none = refl
-
----------------------------------------------------------------- by the byte
 
 pub of-byte : {k j : ℕ} {s : List ℕ} {c : Cursor} {r : ArgumentAt} → k ≡ j → Arguments j s c r → Arguments k s c r
 of-byte q h = rw q h

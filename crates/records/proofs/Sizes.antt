@@ -1,25 +1,16 @@
--- How many words records take. No other law looks into `size` and `space`, so none names a number of words.
+-- How many words records take. Only these laws and the proofs of the code look into `size` and `space`.
 use mathlib.Core.Path.{_≡_, refl}
 use mathlib.Core.List.{List, [], _∷_, _++_}
-use Prim.Native.Nat.{ℕ, suc, _+_, _≤_, _<_}
+use Prim.Native.Nat.{ℕ, _≤_}
 use native.Mathlib.Omega.{arith}
 use lib.ListN.{length}
-use lib.Dec.{lit<}
 use Rattle.atn.specs.Reading.{Rec, rec}
 use Rattle.atn.specs.Entries.{flat, need}
 use Rattle.records.specs.Space.{size, space}
 
-pub size-some : 0 < size
-unfolding size need
-size-some = lit< tt
-
 pub space-zero : space 0 ≡ 0
 unfolding space
 space-zero = omega arith
-
-pub space-suc : (n : ℕ) → space (suc n) ≡ space n + size
-unfolding space size need
-space-suc n = omega arith
 
 pub need-space : (rs : List Rec) → need rs ≡ space (length rs)
 unfolding space size need
@@ -28,10 +19,6 @@ need-space rs = omega arith
 pub flat-length : (r : Rec) → length (flat (r ∷ [])) ≡ size
 unfolding flat size need
 flat-length (rec t m v s) = refl
-
-pub flat-cons : (r : Rec) (rs : List Rec) → flat (r ∷ rs) ≡ flat (r ∷ []) ++ flat rs
-unfolding flat
-flat-cons (rec t m v s) rs = refl
 
 pub flat-append : (rs ss : List Rec) → flat (rs ++ ss) ≡ flat rs ++ flat ss
 unfolding flat
