@@ -1,0 +1,5 @@
+pub mod Forth
+pub mod First
+pub mod Back
+pub mod Seen
+pub mod Written

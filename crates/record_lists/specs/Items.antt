@@ -1,0 +1,31 @@
+-- What a list of records shows: of a span not where its bits are, but which they are. "Spans may move but show the same bits."
+use mathlib.Core.Bool.{Bool, true, false, cond, not, _&&_, _||_}
+use mathlib.Core.List.{List, [], _∷_}
+use Prim.Native.Nat.{ℕ, zero, suc, _+_}
+use lib.Dec.{leb}
+use Rattle.atn.specs.Reading.{Rec, rec}
+
+pub data Item : Type 0 where
+  -- a record as it stands: tag, element number, value, second number
+  plain : ℕ → ℕ → ℕ → ℕ → Item
+  -- a span: tag, element number, its bits
+  bits : ℕ → ℕ → List ℕ → Item
+
+unfoldable pub tagOf : Item → ℕ
+tagOf (plain t m v s) = t
+tagOf (bits t m xs) = t
+
+-- n bits from the place q on
+unfoldable pub stretch : (ℕ → ℕ) → ℕ → ℕ → List ℕ
+stretch b q zero = []
+stretch b q (suc n) = b q ∷ stretch b (suc q) n
+
+-- sp says which tags are those of spans, b are the bits that these point into
+unfoldable pub look : (ℕ → Bool) → (ℕ → ℕ) → List Rec → List Item
+look sp b [] = []
+look sp b (rec t m v s ∷ R) = cond (sp t) (bits t m (stretch b v s)) (plain t m v s) ∷ look sp b R
+
+-- no span goes past the e bits that there are
+unfoldable pub inside : (ℕ → Bool) → ℕ → List Rec → Bool
+inside sp e [] = true
+inside sp e (rec t m v s ∷ R) = (not (sp t) || leb (v + s) e) && inside sp e R

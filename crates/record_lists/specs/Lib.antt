@@ -1,0 +1,6 @@
+pub mod Items
+pub mod Shown
+pub mod Clear
+pub mod Parse
+pub mod Plain
+pub mod Write
