@@ -3,3 +3,4 @@ pub mod First
 pub mod Back
 pub mod Seen
 pub mod Written
+pub mod Messages

@@ -4,3 +4,4 @@ pub mod Clear
 pub mod Parse
 pub mod Plain
 pub mod Write
+pub mod Kinds
