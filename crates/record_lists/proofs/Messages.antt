@@ -54,10 +54,11 @@ clear-aircraft down = rw (clear-elements spanTag (tag.element-index ∷ tag.clea
 clear-ground : (down up : List ℕ) → clear spanTag (groundPdus down up) [] ≡ true
 unfolding clear solid firsts apart ahead spanTag member
 clear-ground down up =
-    rw
-    (clear-elements spanTag (tag.element-index ∷ tag.clearance ∷ tag.integrity-check ∷ []) up protected-arguments
-    , clear-elements spanTag (tag.element-index ∷ tag.clearance ∷ []) up carried-arguments
-    , clear-elements spanTag (tag.element-index ∷ tag.clearance ∷ []) down carried-arguments)
+    rw (
+      clear-elements spanTag (tag.element-index ∷ tag.clearance ∷ tag.integrity-check ∷ []) up protected-arguments,
+      clear-elements spanTag (tag.element-index ∷ tag.clearance ∷ []) up carried-arguments,
+      clear-elements spanTag (tag.element-index ∷ tag.clearance ∷ []) down carried-arguments,
+    )
 
 clear-cm : (d : ℕ) → clear spanTag (cmOf d) [] ≡ true
 unfolding cmOf clear solid firsts apart ahead spanTag member

@@ -1,0 +1,37 @@
+-- What a function that writes a part owes: the list is refused where no value is got from it; else the value's bits are put, and the rest of the list is left.
+use mathlib.Core.Path.{_≡_}
+use mathlib.Core.Bool.{Bool, true, false}
+use mathlib.Core.List.{List}
+use Prim.Native.Nat.{ℕ, _+_, _≤_}
+use lib.ListN.{length}
+use Rattle.x691.specs.Bits.{bitsOf}
+use Rattle.bit_writer.specs.Put.{setBits}
+use Rattle.record_lists.specs.Items.{Item}
+use Rattle.record_lists.specs.Parse.{Got, no, got}
+use Rattle.pens.specs.declared.Pen.{Pen}
+
+-- no message has as many bits: what is put and where the pen stands is promised up to here
+abbrev pub limit : ℕ
+limit = 4294967296
+
+-- The pen goes from p to q, the bytes from X to Y: the value v is got, with the items S left. T are the items from a record on, of m records in all; enc are the bits of a value.
+pub record Took {A : Type 0} (enc : A → List ℕ) (T : ℕ → List Item) (m : ℕ) (p : Pen) (X : List ℕ) (q : Pen) (Y : List ℕ) (v : A) (S : List Item) : Type 0 where
+  pub on : q .off ≡ false
+  pub left : S ≡ T (q .next)
+  pub fits : q .next ≤ m
+  pub wrote : p .at + length (enc v) ≤ limit → (q .at ≡ p .at + length (enc v)) × (Y ≡ setBits X (p .at) (enc v))
+
+abbrev pub Wrote : {A : Type 0} → (A → List ℕ) → (ℕ → List Item) → ℕ → Pen → List ℕ → Pen → List ℕ → Got A → Type 0
+Wrote enc T m p X q Y no = q .off ≡ true
+Wrote enc T m p X q Y (got v S) = Took enc T m p X q Y v S
+
+-- g gets the value from the items that are left
+pub record Writes {A : Type 0} (enc : A → List ℕ) (g : List Item → Got A) (T : ℕ → List Item) (m : ℕ) (p : Pen) (X : List ℕ) (q : Pen) (Y : List ℕ) : Type 0 where
+  pub still : p .off ≡ true → q .off ≡ true
+  pub goes : p .off ≡ false → p .next ≤ m → Wrote enc T m p X q Y (g (T (p .next)))
+
+-- n bits of v, and no record
+pub record Inks (p : Pen) (X : List ℕ) (n v : ℕ) (q : Pen) (Y : List ℕ) : Type 0 where
+  pub next-stays : q .next ≡ p .next
+  pub off-stays : q .off ≡ p .off
+  pub puts : p .at ≤ limit → (q .at ≡ p .at + n) × (Y ≡ setBits X (p .at) (bitsOf n v))
