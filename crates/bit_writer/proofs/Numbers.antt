@@ -1,6 +1,6 @@
 -- Laws of the bits of a number.
 use mathlib.Core.Path.{_≡_}
-use mathlib.Core.List.{_++_}
+use mathlib.Core.List.{List, [], _∷_, _++_}
 use Prim.Native.Nat.{ℕ, zero, suc, _+_, _/_, _%_, _^_, _<_}
 use native.Mathlib.Nat.{zero-add, suc-add, add-comm, mod-lt, mod-eq-of-lt}
 use native.Mathlib.Numerals.{one-add}
@@ -20,3 +20,7 @@ pub bitsOf-below : (n v : ℕ) → v < 2 ^ n → All (λ c. c < 2) (bitsOf n v)
 unfolding bitsOf
 bitsOf-below zero v h = tt
 bitsOf-below (suc n) v h = (shr-lt 1 n (rw one-add h), bitsOf-below n (v % 2 ^ n) (mod-lt v (pow-pos n)))
+
+pub below-join : (n : ℕ) (xs ys : List ℕ) → All (λ c. c < n) xs → All (λ c. c < n) ys → All (λ c. c < n) (xs ++ ys)
+below-join n [] ys h k = k
+below-join n (x ∷ xs) ys h k = (h .0, below-join n xs ys (h .1) k)

@@ -3,6 +3,7 @@ use mathlib.Core.Path.{_≡_, refl, sym, ap, _∙_}
 use mathlib.Core.List.{List, [], _∷_, _++_}
 use Prim.Native.Nat.{ℕ, suc, _+_, _*_, _/_, _≤_, _<_}
 use native.Mathlib.Nat.{add-zero, add-suc, suc-add}
+use native.Mathlib.Numerals.{add-one}
 use native.Mathlib.Omega.{arith}
 use lib.ListN.{length, take, drop, getD}
 use lib.Seq.{drop-set-lt, take-set-le}
@@ -21,6 +22,11 @@ pub setBits-length : (s : List ℕ) (p : ℕ) (xs : List ℕ) → length (setBit
 unfolding setBits
 setBits-length s p [] = refl
 setBits-length s p (x ∷ xs) = setBits-length (setBit s p x) (suc p) xs ∙ setBit-length s p x
+
+-- the first bit apart
+pub setBits-cons : (s : List ℕ) (p x : ℕ) (xs : List ℕ) → setBits s p (x ∷ xs) ≡ setBits (setBit s p x) (p + 1) xs
+unfolding setBits
+setBits-cons s p x xs = rw add-one
 
 -- into no bytes
 pub setBits-none : (p : ℕ) (xs : List ℕ) → setBits [] p xs ≡ []
@@ -42,6 +48,13 @@ setBits-under s p q y (z ∷ ys) h b = setBits-under (setBit s q z) p (suc q) y 
 -- and put again
 pub setBits-again : (s : List ℕ) (p q x y : ℕ) (ys : List ℕ) → p < q → x < 2 → All (λ c. c < 2) ys → setBit (setBits (setBit s p x) q ys) p y ≡ setBits (setBit s p y) q ys
 setBits-again s p q x y ys h l b = setBits-under (setBit s p x) p q y ys h b ∙ ap (λ (l : List ℕ). setBits l q ys) (setBit-twice s p x y l)
+
+-- one among several put again
+pub setBits-instead : (s : List ℕ) (p : ℕ) (xs : List ℕ) (x y : ℕ) (ys : List ℕ) → x < 2 → All (λ c. c < 2) ys → setBit (setBits s p (xs ++ x ∷ ys)) (p + length xs) y ≡ setBits s p (xs ++ y ∷ ys)
+unfolding setBits
+setBits-instead s p xs x y ys l b =
+    rw (setBits-join s p xs (x ∷ ys), setBits-join s p xs (y ∷ ys))
+    (setBits-again (setBits s p xs) (p + length xs) (suc (p + length xs)) x y ys (omega arith) l b)
 
 -- the bits before and behind are as they were
 pub setBits-before : (s : List ℕ) (p : ℕ) (xs : List ℕ) (q : ℕ) → All (λ c. c < 2) xs → q < p → bitOf (setBits s p xs) q ≡ bitOf s q

@@ -1,6 +1,6 @@
 // Bits put into one byte.
 ghost use mathlib.Core.Path.{_≡_};
-ghost use Prim.Native.Nat.{_+_, _*_, _/_, _%_, _^_, _≤_, _<_, _-_, min};
+ghost use Prim.Native.Nat.{_+_, _-_, _*_, _/_, _%_, _^_, _≤_, _<_, min};
 ghost use Rattle.x691.specs.Bits.{bitsOf};
 ghost use Rattle.bit_writer.specs.Put.{setBits};
 

@@ -19,8 +19,8 @@ pub fn put_span(out: &mut [u8], at: usize, src: &[u8], from: usize, n: usize)
     }
 }
 
-// How many of n bits are put at once. All but the last are put in seven bytes' worth, so that each run of
-// them begins in its byte where the first does.
+// How many of n bits are put at once: seven bytes of them, so that each run begins in its byte where the
+// first does.
 fn chunk(n: usize) -> usize
     ensures { λ r. ⌜ r ≡ min n 56 ⌝ }
 {
