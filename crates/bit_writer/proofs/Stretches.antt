@@ -6,10 +6,9 @@ use native.Mathlib.Nat.{zero-add, suc-add, add-zero, add-suc}
 use native.Mathlib.Omega.{arith}
 use lib.ListN.{length}
 use lib.Pow.{high, low}
-use Rattle.x691.specs.Bits.{uint, bitsOf, Spells}
+use Rattle.x691.specs.Bits.{uint, bitsOf, Spells, stretch}
 use Rattle.x691.specs.Range.{All}
 use Rattle.x691.proofs.BitLaws.{uint-lt}
-use Rattle.bit_writer.specs.Put.{stretch}
 
 pub stretch-length : (b : ℕ → ℕ) (q n : ℕ) → length (stretch b q n) ≡ n
 unfolding stretch

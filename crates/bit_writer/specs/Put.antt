@@ -15,8 +15,3 @@ setBit s p x = set s (p / 8) (inByte (getD s (p / 8) 0) (p % 8) x)
 unfoldable pub setBits : List ℕ → ℕ → List ℕ → List ℕ
 setBits s p [] = s
 setBits s p (x ∷ xs) = setBits (setBit s p x) (suc p) xs
-
--- n bits from place q of b, as a list
-unfoldable pub stretch : (ℕ → ℕ) → ℕ → ℕ → List ℕ
-stretch b q zero = []
-stretch b q (suc n) = b q ∷ stretch b (suc q) n

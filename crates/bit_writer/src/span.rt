@@ -2,8 +2,8 @@
 ghost use mathlib.Core.Path.{_≡_};
 ghost use Prim.Native.Nat.{_+_, _*_, _^_, _≤_, _<_, min};
 ghost use lib.ListN.{length};
-ghost use Rattle.x691.specs.Bits.{bitOf};
-ghost use Rattle.bit_writer.specs.Put.{setBits, stretch};
+ghost use Rattle.x691.specs.Bits.{bitOf, stretch};
+ghost use Rattle.bit_writer.specs.Put.{setBits};
 use super::number::put;
 
 // From `at` on the n bits of src from `from` on.

@@ -7,9 +7,10 @@ use native.Mathlib.Omega.{arith}
 use lib.ListN.{getD, drop}
 use lib.Dec.{eqb}
 use borrow.Author.Tests.{eqb-true, eqb-false, eq-eqb, ne-eqb}
+use Rattle.x691.specs.Bits.{stretch}
 use Rattle.x691.specs.Range.{member}
 use Rattle.atn.specs.Reading.{Rec, rec}
-use Rattle.record_lists.specs.Items.{Item, plain, bits, tagOf, stretch, look}
+use Rattle.record_lists.specs.Items.{Item, plain, bits, tagOf, look}
 use Rattle.record_lists.specs.Kinds.{spanTag}
 use Rattle.record_lists.specs.Parse.{opens, begins, same}
 use Rattle.record_lists.proofs.Forth.{differ}

@@ -11,7 +11,7 @@ use native.Mathlib.Numerals.{add-one}
 use lib.ListN.{length, drop, length-append}
 use lib.Dec.{leb}
 use borrow.Author.Tests.{not-true, le-leb}
-use Rattle.x691.specs.Bits.{bitsOf, Spells}
+use Rattle.x691.specs.Bits.{bitsOf, Spells, stretch}
 use Rattle.x691.specs.Types.{Value, Values, Pick, extent}
 use Rattle.x691.specs.Encoding.{width, highest, lengthBits, sizeBits, unitBits, joined, ifAny, preamble, encode, encodeMembers, encodePick, index}
 use Rattle.x691.specs.Range.{member, All, IfAny, InRange, AllInRange, PickInRange}
@@ -24,7 +24,7 @@ use Rattle.atn.specs.Told.{tellAny, tellAll, tell, tellFields, tellPick}
 use Rattle.atn.proofs.Inverse.{both}
 use Rattle.atn.proofs.Steps.{length-size}
 use Rattle.atn.proofs.Complete.{length-preamble}
-use Rattle.record_lists.specs.Items.{Item, plain, bits, stretch, look, inside}
+use Rattle.record_lists.specs.Items.{Item, plain, bits, look, inside}
 use Rattle.record_lists.specs.Shown.{packed, spelt, spanned, showAny, showAll, shown, shownFields, shownPick}
 use Rattle.record_lists.specs.Clear.{apart, solid, solidFields, firsts, firstsFields, ahead, clear, clearFields, clearAlts}
 use Rattle.record_lists.proofs.First.{length-span}

@@ -3,6 +3,7 @@ use mathlib.Core.Bool.{Bool, true, false, cond, not, _&&_, _||_}
 use mathlib.Core.List.{List, [], _∷_}
 use Prim.Native.Nat.{ℕ, zero, suc, _+_}
 use lib.Dec.{leb}
+use Rattle.x691.specs.Bits.{stretch}
 use Rattle.atn.specs.Reading.{Rec, rec}
 
 pub data Item : Type 0 where
@@ -14,11 +15,6 @@ pub data Item : Type 0 where
 unfoldable pub tagOf : Item → ℕ
 tagOf (plain t m v s) = t
 tagOf (bits t m xs) = t
-
--- n bits from the place q on
-unfoldable pub stretch : (ℕ → ℕ) → ℕ → ℕ → List ℕ
-stretch b q zero = []
-stretch b q (suc n) = b q ∷ stretch b (suc q) n
 
 -- sp says which tags are those of spans, b are the bits that these point into
 unfoldable pub look : (ℕ → Bool) → (ℕ → ℕ) → List Rec → List Item

@@ -22,3 +22,8 @@ bitsOf (suc n) v = v / 2 ^ n ∷ bitsOf n (v % 2 ^ n)
 unfoldable pub Spells : (ℕ → ℕ) → ℕ → List ℕ → Type 0
 Spells b at [] = Unit {0}
 Spells b at (x ∷ xs) = (b at ≡ x) × Spells b (suc at) xs
+
+-- n bits from the place q on, as a list
+unfoldable pub stretch : (ℕ → ℕ) → ℕ → ℕ → List ℕ
+stretch b q zero = []
+stretch b q (suc n) = b q ∷ stretch b (suc q) n

@@ -5,9 +5,9 @@ use Prim.Native.Nat.{ℕ, _+_, _-_, _≤_}
 use native.Mathlib.Nat.{add-zero, sub-zero, add-assoc}
 use native.Mathlib.Omega.{arith}
 use lib.ListN.{length}
-use Rattle.x691.specs.Bits.{bitOf, uint, bitsOf}
+use Rattle.x691.specs.Bits.{bitOf, uint, bitsOf, stretch}
 use Rattle.x691.proofs.BitLaws.{bitOf-lt}
-use Rattle.bit_writer.specs.Put.{setBits, stretch}
+use Rattle.bit_writer.specs.Put.{setBits}
 use Rattle.bit_writer.proofs.PutLaws.{setBits-join, setBits-length}
 use Rattle.bit_writer.proofs.Stretches.{stretch-join, stretch-length, stretch-number}
 use Rattle.bit_writer.proofs.span.put_span.Statement.{statement}
