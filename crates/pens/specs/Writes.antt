@@ -5,10 +5,14 @@ use mathlib.Core.List.{List}
 use Prim.Native.Nat.{ℕ, _+_, _≤_}
 use lib.ListN.{length}
 use Rattle.x691.specs.Bits.{bitsOf}
+use Rattle.x691.specs.Encoding.{encode}
+use Rattle.atn.specs.Format.{Fmt, typeOf}
+use Rattle.atn.specs.Reading.{Ctx}
 use Rattle.bit_writer.specs.Put.{setBits}
 use Rattle.record_lists.specs.Items.{Item}
-use Rattle.record_lists.specs.Parse.{Got, no, got}
+use Rattle.record_lists.specs.Parse.{Got, no, got, parse}
 use Rattle.pens.specs.declared.Pen.{Pen}
+use Rattle.pens.specs.Rest.{items}
 
 -- no message has as many bits: what is put and where the pen stands is promised up to here
 abbrev pub limit : ℕ
@@ -35,3 +39,7 @@ pub record Inks (p : Pen) (X : List ℕ) (n v : ℕ) (q : Pen) (Y : List ℕ) : 
   pub next-stays : q .next ≡ p .next
   pub off-stays : q .off ≡ p .off
   pub puts : p .at ≤ limit → (q .at ≡ p .at + n) × (Y ≡ setBits X (p .at) (bitsOf n v))
+
+-- a part of the format f, in the context x, from the list in the words W, of m records, whose spans point into the bits b
+abbrev pub Part : Fmt → Ctx → (ℕ → ℕ) → List ℕ → ℕ → Pen → List ℕ → Pen → List ℕ → Type 0
+Part f x b W m p X q Y = Writes (λ v. encode (typeOf f) v) (λ R. parse f x R) (λ i. items b W m i) m p X q Y
