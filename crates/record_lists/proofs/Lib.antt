@@ -4,3 +4,4 @@ pub mod Back
 pub mod Seen
 pub mod Written
 pub mod Messages
+pub mod Longest
