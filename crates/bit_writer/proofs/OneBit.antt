@@ -13,7 +13,7 @@ use Rattle.bit_writer.specs.Put.{inByte, setBit}
 use Rattle.bit_writer.proofs.Fields.{replaced, bit-again, bits-swap, bit-put, bit-higher, bit-lower, replaced-lt}
 use Rattle.bit_writer.proofs.Elements.{change-same, change-twice, change-swap, change-keeps}
 
-pub inByte-replaced : (v i x : ℕ) → i < 8 → inByte v i x ≡ replaced v (7 - i) 1 x
+pub inByte-replaced : (v i x : ℕ) → i < 8 → inByte v i x ≡ replaced v (7 - i) 1 (x % 2)
 unfolding inByte replaced
 inByte-replaced v i x h = let e : 7 - i + 1 ≡ 8 - i = omega arith in rw e
 
@@ -22,24 +22,24 @@ unfolding setBit
 setBit-length s p x = length-set s (p / 8) _
 
 -- a bit put again
-pub setBit-twice : (s : List ℕ) (p x y : ℕ) → x < 2 → setBit (setBit s p x) p y ≡ setBit s p y
+pub setBit-twice : (s : List ℕ) (p x y : ℕ) → setBit (setBit s p x) p y ≡ setBit s p y
 unfolding setBit
-setBit-twice s p x y h =
+setBit-twice s p x y =
     change-twice s (p / 8) (λ v. inByte v (p % 8) x) (λ v. inByte v (p % 8) y)
     ∙ change-same s (p / 8) (λ v. inByte (inByte v (p % 8) x) (p % 8) y) (λ v. inByte v (p % 8) y) again
   where
     again : (v : ℕ) → inByte (inByte v (p % 8) x) (p % 8) y ≡ inByte v (p % 8) y
-    again v = rw (inByte-replaced (inByte v (p % 8) x) (p % 8) y (omega arith), inByte-replaced v (p % 8) x (omega arith), inByte-replaced v (p % 8) y (omega arith)) (bit-again v (7 - p % 8) x y h)
+    again v = rw (inByte-replaced (inByte v (p % 8) x) (p % 8) y (omega arith), inByte-replaced v (p % 8) x (omega arith), inByte-replaced v (p % 8) y (omega arith)) (bit-again v (7 - p % 8) (x % 2) (y % 2) (omega arith))
 
 -- bits put in either order
-pub setBit-swap : (s : List ℕ) (p q x y : ℕ) → p < q → y < 2 → setBit (setBit s p x) q y ≡ setBit (setBit s q y) p x
+pub setBit-swap : (s : List ℕ) (p q x y : ℕ) → p < q → setBit (setBit s p x) q y ≡ setBit (setBit s q y) p x
 unfolding setBit
-setBit-swap s p q x y h u = go (eqb (p / 8) (q / 8)) refl
+setBit-swap s p q x y h = go (eqb (p / 8) (q / 8)) refl
   where
     swap : (v : ℕ) → p % 8 < q % 8 → inByte (inByte v (p % 8) x) (q % 8) y ≡ inByte (inByte v (q % 8) y) (p % 8) x
     swap v l =
         rw (inByte-replaced (inByte v (p % 8) x) (q % 8) y (omega arith), inByte-replaced v (p % 8) x (omega arith), inByte-replaced (inByte v (q % 8) y) (p % 8) x (omega arith), inByte-replaced v (q % 8) y (omega arith))
-        (bits-swap v (7 - p % 8) (7 - q % 8) x y (omega arith) u)
+        (bits-swap v (7 - p % 8) (7 - q % 8) (x % 2) (y % 2) (omega arith) (omega arith))
 
     go : (b : Bool) → eqb (p / 8) (q / 8) ≡ b → setBit (setBit s p x) q y ≡ setBit (setBit s q y) p x
     go true e =
@@ -51,31 +51,31 @@ setBit-swap s p q x y h u = go (eqb (p / 8) (q / 8)) refl
     go false e = change-swap s (p / 8) (q / 8) (λ v. inByte v (p % 8) x) (λ v. inByte v (q % 8) y) (eqb-false (p / 8) (q / 8) e)
 
 -- the bit that was put is there
-pub setBit-bit : (s : List ℕ) (p x : ℕ) → x < 2 → p < length s * 8 → bitOf (setBit s p x) p ≡ x
+pub setBit-bit : (s : List ℕ) (p x : ℕ) → p < length s * 8 → bitOf (setBit s p x) p ≡ x % 2
 unfolding setBit bitOf
-setBit-bit s p x h l =
+setBit-bit s p x l =
     let i : p / 8 < length s = omega arith in
-    rw (getD-set-same s (p / 8) _ 0 i, inByte-replaced (getD s (p / 8) 0) (p % 8) x (omega arith)) (bit-put (getD s (p / 8) 0) (7 - p % 8) x h)
+    rw (getD-set-same s (p / 8) _ 0 i, inByte-replaced (getD s (p / 8) 0) (p % 8) x (omega arith)) (bit-put (getD s (p / 8) 0) (7 - p % 8) (x % 2) (omega arith))
 
 -- and those before and behind it are as they were
-pub setBit-before : (s : List ℕ) (p x q : ℕ) → x < 2 → q < p → bitOf (setBit s p x) q ≡ bitOf s q
+pub setBit-before : (s : List ℕ) (p x q : ℕ) → q < p → bitOf (setBit s p x) q ≡ bitOf s q
 unfolding setBit bitOf
-setBit-before s p x q h l =
+setBit-before s p x q l =
     change-keeps (λ w. w / 2 ^ (7 - q % 8) % 2 ≡ bitOf s q) s (p / 8) (q / 8) (λ v. inByte v (p % 8) x)
-    (λ e. rw (inByte-replaced (getD s (q / 8) 0) (p % 8) x (omega arith)) (bit-higher (getD s (q / 8) 0) (7 - p % 8) (7 - q % 8) x (omega arith) h))
+    (λ e. rw (inByte-replaced (getD s (q / 8) 0) (p % 8) x (omega arith)) (bit-higher (getD s (q / 8) 0) (7 - p % 8) (7 - q % 8) (x % 2) (omega arith) (omega arith)))
     refl
 
 pub setBit-after : (s : List ℕ) (p x q : ℕ) → p < q → bitOf (setBit s p x) q ≡ bitOf s q
 unfolding setBit bitOf
 setBit-after s p x q l =
     change-keeps (λ w. w / 2 ^ (7 - q % 8) % 2 ≡ bitOf s q) s (p / 8) (q / 8) (λ v. inByte v (p % 8) x)
-    (λ e. rw (inByte-replaced (getD s (q / 8) 0) (p % 8) x (omega arith)) (bit-lower (getD s (q / 8) 0) (7 - p % 8) (7 - q % 8) x (omega arith)))
+    (λ e. rw (inByte-replaced (getD s (q / 8) 0) (p % 8) x (omega arith)) (bit-lower (getD s (q / 8) 0) (7 - p % 8) (7 - q % 8) (x % 2) (omega arith)))
     refl
 
 -- bytes stay bytes
-pub setBit-bytes : (s : List ℕ) (p x : ℕ) → x < 2 → ((i : ℕ) → getD s i 0 < 256) → (i : ℕ) → getD (setBit s p x) i 0 < 256
+pub setBit-bytes : (s : List ℕ) (p x : ℕ) → ((i : ℕ) → getD s i 0 < 256) → (i : ℕ) → getD (setBit s p x) i 0 < 256
 unfolding setBit
-setBit-bytes s p x h l i =
+setBit-bytes s p x l i =
     change-keeps (λ w. w < 256) s (p / 8) i (λ v. inByte v (p % 8) x)
-    (λ e. rw (inByte-replaced (getD s i 0) (p % 8) x (omega arith)) (replaced-lt 8 (getD s i 0) (7 - p % 8) 1 x (omega arith) (l i) h))
+    (λ e. rw (inByte-replaced (getD s i 0) (p % 8) x (omega arith)) (replaced-lt 8 (getD s i 0) (7 - p % 8) 1 (x % 2) (omega arith) (l i) (omega arith)))
     (l i)

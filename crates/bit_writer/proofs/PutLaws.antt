@@ -1,8 +1,8 @@
 -- Laws of bits put, for every number of them.
 use mathlib.Core.Path.{_≡_, refl, sym, ap, _∙_}
 use mathlib.Core.List.{List, [], _∷_, _++_}
-use Prim.Native.Nat.{ℕ, suc, _+_, _*_, _/_, _≤_, _<_}
-use native.Mathlib.Nat.{add-zero, add-suc, suc-add}
+use Prim.Native.Nat.{ℕ, zero, suc, _+_, _*_, _/_, _%_, _≤_, _<_}
+use native.Mathlib.Nat.{add-zero, add-suc, suc-add, mod-eq-of-lt}
 use native.Mathlib.Numerals.{add-one}
 use native.Mathlib.Omega.{arith}
 use lib.ListN.{length, take, drop, getD}
@@ -40,27 +40,27 @@ unfolding setBits bitsOf
 setBits-one s p x = ap (setBit s p) (omega arith)
 
 -- a bit put after those behind it
-pub setBits-under : (s : List ℕ) (p q y : ℕ) (ys : List ℕ) → p < q → All (λ c. c < 2) ys → setBit (setBits s q ys) p y ≡ setBits (setBit s p y) q ys
+pub setBits-under : (s : List ℕ) (p q y : ℕ) (ys : List ℕ) → p < q → setBit (setBits s q ys) p y ≡ setBits (setBit s p y) q ys
 unfolding setBits
-setBits-under s p q y [] h b = refl
-setBits-under s p q y (z ∷ ys) h b = setBits-under (setBit s q z) p (suc q) y ys (omega arith) (b .1) ∙ ap (λ (l : List ℕ). setBits l (suc q) ys) (sym (setBit-swap s p q y z h (b .0)))
+setBits-under s p q y [] h = refl
+setBits-under s p q y (z ∷ ys) h = setBits-under (setBit s q z) p (suc q) y ys (omega arith) ∙ ap (λ (l : List ℕ). setBits l (suc q) ys) (sym (setBit-swap s p q y z h))
 
 -- and put again
-pub setBits-again : (s : List ℕ) (p q x y : ℕ) (ys : List ℕ) → p < q → x < 2 → All (λ c. c < 2) ys → setBit (setBits (setBit s p x) q ys) p y ≡ setBits (setBit s p y) q ys
-setBits-again s p q x y ys h l b = setBits-under (setBit s p x) p q y ys h b ∙ ap (λ (l : List ℕ). setBits l q ys) (setBit-twice s p x y l)
+pub setBits-again : (s : List ℕ) (p q x y : ℕ) (ys : List ℕ) → p < q → setBit (setBits (setBit s p x) q ys) p y ≡ setBits (setBit s p y) q ys
+setBits-again s p q x y ys h = setBits-under (setBit s p x) p q y ys h ∙ ap (λ (l : List ℕ). setBits l q ys) (setBit-twice s p x y)
 
 -- one among several put again
-pub setBits-instead : (s : List ℕ) (p : ℕ) (xs : List ℕ) (x y : ℕ) (ys : List ℕ) → x < 2 → All (λ c. c < 2) ys → setBit (setBits s p (xs ++ x ∷ ys)) (p + length xs) y ≡ setBits s p (xs ++ y ∷ ys)
+pub setBits-instead : (s : List ℕ) (p : ℕ) (xs : List ℕ) (x y : ℕ) (ys : List ℕ) → setBit (setBits s p (xs ++ x ∷ ys)) (p + length xs) y ≡ setBits s p (xs ++ y ∷ ys)
 unfolding setBits
-setBits-instead s p xs x y ys l b =
+setBits-instead s p xs x y ys =
     rw (setBits-join s p xs (x ∷ ys), setBits-join s p xs (y ∷ ys))
-    (setBits-again (setBits s p xs) (p + length xs) (suc (p + length xs)) x y ys (omega arith) l b)
+    (setBits-again (setBits s p xs) (p + length xs) (suc (p + length xs)) x y ys (omega arith))
 
 -- the bits before and behind are as they were
-pub setBits-before : (s : List ℕ) (p : ℕ) (xs : List ℕ) (q : ℕ) → All (λ c. c < 2) xs → q < p → bitOf (setBits s p xs) q ≡ bitOf s q
+pub setBits-before : (s : List ℕ) (p : ℕ) (xs : List ℕ) (q : ℕ) → q < p → bitOf (setBits s p xs) q ≡ bitOf s q
 unfolding setBits
-setBits-before s p [] q b h = refl
-setBits-before s p (x ∷ xs) q b h = setBits-before (setBit s p x) (suc p) xs q (b .1) (omega arith) ∙ setBit-before s p x q (b .0) h
+setBits-before s p [] q h = refl
+setBits-before s p (x ∷ xs) q h = setBits-before (setBit s p x) (suc p) xs q (omega arith) ∙ setBit-before s p x q h
 
 pub setBits-after : (s : List ℕ) (p : ℕ) (xs : List ℕ) (q : ℕ) → p + length xs ≤ q → bitOf (setBits s p xs) q ≡ bitOf s q
 unfolding setBits
@@ -68,11 +68,17 @@ setBits-after s p [] q h = refl
 setBits-after s p (x ∷ xs) q h = setBits-after (setBit s p x) (suc p) xs q (omega arith) ∙ setBit-after s p x q (omega arith)
 
 -- the bits put are there
+pub setBits-bit : (s : List ℕ) (p : ℕ) (xs : List ℕ) (i : ℕ) → i < length xs → p + length xs ≤ length s * 8 → bitOf (setBits s p xs) (p + i) ≡ getD xs i 0 % 2
+unfolding setBits
+setBits-bit s p [] i l h = absurd (omega arith)
+setBits-bit s p (x ∷ xs) zero l h = rw add-zero (setBits-before (setBit s p x) (suc p) xs p (omega arith) ∙ setBit-bit s p x (omega arith))
+setBits-bit s p (x ∷ xs) (suc i) l h = rw (add-suc, ← suc-add) (setBits-bit (setBit s p x) (suc p) xs i (omega arith) (omega (arith, setBit-length s p x)))
+
 pub setBits-spells : (s : List ℕ) (p : ℕ) (xs : List ℕ) → All (λ c. c < 2) xs → p + length xs ≤ length s * 8 → Spells (bitOf (setBits s p xs)) p xs
 unfolding setBits Spells
 setBits-spells s p [] b h = tt
 setBits-spells s p (x ∷ xs) b h = (
-  setBits-before (setBit s p x) (suc p) xs p (b .1) (omega arith) ∙ setBit-bit s p x (b .0) (omega arith),
+  setBits-before (setBit s p x) (suc p) xs p (omega arith) ∙ setBit-bit s p x (omega arith) ∙ mod-eq-of-lt (b .0),
   setBits-spells (setBit s p x) (suc p) xs (b .1) (omega (arith, setBit-length s p x)),
 )
 
@@ -88,7 +94,7 @@ setBits-behind k s p [] h = refl
 setBits-behind k s p (x ∷ xs) h = setBits-behind k (setBit s p x) (suc p) xs (omega arith) ∙ drop-set-lt k s (p / 8) _ (omega arith)
 
 -- bytes stay bytes
-pub setBits-bytes : (s : List ℕ) (p : ℕ) (xs : List ℕ) → All (λ c. c < 2) xs → ((i : ℕ) → getD s i 0 < 256) → (i : ℕ) → getD (setBits s p xs) i 0 < 256
+pub setBits-bytes : (s : List ℕ) (p : ℕ) (xs : List ℕ) → ((i : ℕ) → getD s i 0 < 256) → (i : ℕ) → getD (setBits s p xs) i 0 < 256
 unfolding setBits
-setBits-bytes s p [] b h i = h i
-setBits-bytes s p (x ∷ xs) b h i = setBits-bytes (setBit s p x) (suc p) xs (b .1) (setBit-bytes s p x (b .0) h) i
+setBits-bytes s p [] h i = h i
+setBits-bytes s p (x ∷ xs) h i = setBits-bytes (setBit s p x) (suc p) xs (setBit-bytes s p x h) i

@@ -3,9 +3,9 @@ use mathlib.Core.List.{List, [], _∷_}
 use Prim.Native.Nat.{ℕ, zero, suc, _+_, _-_, _*_, _/_, _%_, _^_}
 use lib.ListN.{getD, set}
 
--- the byte v with its bit i, from the top, made x
+-- the byte v with its bit i, from the top, made x, of which only whether it is odd counts
 unfoldable pub inByte : ℕ → ℕ → ℕ → ℕ
-inByte v i x = v / 2 ^ (8 - i) * 2 ^ (8 - i) + x * 2 ^ (7 - i) + v % 2 ^ (7 - i)
+inByte v i x = v / 2 ^ (8 - i) * 2 ^ (8 - i) + x % 2 * 2 ^ (7 - i) + v % 2 ^ (7 - i)
 
 -- bit p of the bytes made x; past the last byte nothing changes
 unfoldable pub setBit : List ℕ → ℕ → ℕ → List ℕ
