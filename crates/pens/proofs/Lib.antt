@@ -1,2 +1,5 @@
 pub mod RestLaws
 pub mod PenLaws
+pub mod PartLaws
+pub mod MemberLaws
+pub mod ListLaws

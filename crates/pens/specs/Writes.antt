@@ -5,12 +5,14 @@ use mathlib.Core.List.{List}
 use Prim.Native.Nat.{ℕ, _+_, _≤_}
 use lib.ListN.{length}
 use Rattle.x691.specs.Bits.{bitsOf}
-use Rattle.x691.specs.Encoding.{encode}
-use Rattle.atn.specs.Format.{Fmt, typeOf}
+use Rattle.x691.specs.Types.{Value}
+use Rattle.x691.specs.Encoding.{joined, preamble, encode, encodeMembers}
+use Rattle.atn.specs.Format.{Fmt, Flds, typeOf, membersOf}
 use Rattle.atn.specs.Reading.{Ctx}
 use Rattle.bit_writer.specs.Put.{setBits}
 use Rattle.record_lists.specs.Items.{Item}
-use Rattle.record_lists.specs.Parse.{Got, no, got, parse}
+use Rattle.record_lists.specs.Clear.{firsts}
+use Rattle.record_lists.specs.Parse.{Got, no, got, opens, several, parse, parseFields}
 use Rattle.pens.specs.declared.Pen.{Pen}
 use Rattle.pens.specs.Rest.{items}
 
@@ -40,6 +42,36 @@ pub record Inks (p : Pen) (X : List ℕ) (n v : ℕ) (q : Pen) (Y : List ℕ) : 
   pub off-stays : q .off ≡ p .off
   pub puts : p .at ≤ limit → (q .at ≡ p .at + n) × (Y ≡ setBits X (p .at) (bitsOf n v))
 
+-- n bits are left out, to be put later
+pub record Skips (p : Pen) (n : ℕ) (q : Pen) : Type 0 where
+  pub next-stays : q .next ≡ p .next
+  pub off-stays : q .off ≡ p .off
+  pub moves : p .at ≤ limit → q .at ≡ p .at + n
+
 -- a part of the format f, in the context x, from the list in the words W, of m records, whose spans point into the bits b
 abbrev pub Part : Fmt → Ctx → (ℕ → ℕ) → List ℕ → ℕ → Pen → List ℕ → Pen → List ℕ → Type 0
 Part f x b W m p X q Y = Writes (λ v. encode (typeOf f) v) (λ R. parse f x R) (λ i. items b W m i) m p X q Y
+
+-- The same of the members of a sequence, whose presence bits are put from the place fl on, before the members.
+pub record TookMembers {A : Type 0} (fl : ℕ) (presence enc : A → List ℕ) (T : ℕ → List Item) (m : ℕ) (p : Pen) (X : List ℕ) (q : Pen) (Y : List ℕ) (v : A) (S : List Item) : Type 0 where
+  pub on : q .off ≡ false
+  pub left : S ≡ T (q .next)
+  pub fits : q .next ≤ m
+  pub wrote : fl + length (presence v) ≤ p .at → p .at + length (enc v) ≤ limit → (q .at ≡ p .at + length (enc v)) × (Y ≡ setBits (setBits X fl (presence v)) (p .at) (enc v))
+
+abbrev pub WroteMembers : {A : Type 0} → ℕ → (A → List ℕ) → (A → List ℕ) → (ℕ → List Item) → ℕ → Pen → List ℕ → Pen → List ℕ → Got A → Type 0
+WroteMembers fl presence enc T m p X q Y no = q .off ≡ true
+WroteMembers fl presence enc T m p X q Y (got v S) = TookMembers fl presence enc T m p X q Y v S
+
+pub record WritesMembers {A : Type 0} (fl : ℕ) (presence enc : A → List ℕ) (g : List Item → Got A) (T : ℕ → List Item) (m : ℕ) (p : Pen) (X : List ℕ) (q : Pen) (Y : List ℕ) : Type 0 where
+  pub still : p .off ≡ true → q .off ≡ true
+  pub goes : p .off ≡ false → p .next ≤ m → WroteMembers fl presence enc T m p X q Y (g (T (p .next)))
+
+abbrev pub Members : ℕ → Flds → Ctx → (ℕ → ℕ) → List ℕ → ℕ → Pen → List ℕ → Pen → List ℕ → Type 0
+Members fl fs x b W m p X q Y =
+    WritesMembers fl (λ vs. preamble (membersOf fs) vs) (λ vs. encodeMembers (membersOf fs) vs) (λ R. parseFields fs x R) (λ i. items b W m i) m p X q Y
+
+-- Members of a list, n at most, the first in place i: those that are there, and how many.
+pub record Repeats (f : Fmt) (e i n : ℕ) (b : ℕ → ℕ) (W : List ℕ) (m : ℕ) (p : Pen) (X : List ℕ) (q : Pen) (Y : List ℕ) (count : ℕ) : Type 0 where
+  pub writes : Writes (λ vs. joined (λ v. encode (typeOf f) v) vs) (λ R. several (λ j S. parse f (e, j) S) (λ S. opens (firsts f) S) i n R) (λ j. items b W m j) m p X q Y
+  pub counts : p .off ≡ false → p .next ≤ m → (vs : List (Value (typeOf f))) (S : List Item) → several (λ j S. parse f (e, j) S) (λ S. opens (firsts f) S) i n (items b W m (p .next)) ≡ got vs S → length vs ≡ count

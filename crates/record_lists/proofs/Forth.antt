@@ -101,12 +101,12 @@ module _ {A : Type 0} where
       (c .1, rw (← z) (c .0))
 
 module _ {A B : Type 0} where
-  feed-inv : (x : Got A) (k : A → List Item → Got B) {v : B} {S : List Item} → feed x k ≡ got v S → (a : A) × (T : List Item) × (x ≡ got a T) × (k a T ≡ got v S)
+  pub feed-inv : (x : Got A) (k : A → List Item → Got B) {v : B} {S : List Item} → feed x k ≡ got v S → (a : A) × (T : List Item) × (x ≡ got a T) × (k a T ≡ got v S)
   unfolding feed
   feed-inv no k h = nothing h
   feed-inv (got a R) k h = (a, R, refl, h)
 
-  turn-inv : (g : A → B) (x : Got A) {v : B} {S : List Item} → turn g x ≡ got v S → (a : A) × (x ≡ got a S) × (v ≡ g a)
+  pub turn-inv : (g : A → B) (x : Got A) {v : B} {S : List Item} → turn g x ≡ got v S → (a : A) × (x ≡ got a S) × (v ≡ g a)
   unfolding turn
   turn-inv g no h = nothing h
   turn-inv g (got a R) h = (a, cc, cc)
