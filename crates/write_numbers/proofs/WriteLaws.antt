@@ -11,7 +11,7 @@ use Rattle.record_lists.specs.Parse.{Got, no, got}
 use Rattle.pens.specs.declared.Pen.{Pen}
 use Rattle.pens.specs.Writes.{Writes, Inks}
 
-module _ {A : Type 0} (enc : A → List ℕ) (g : List Item → Got A) (T : ℕ → List Item) (m : ℕ) (p : Pen) (X : List ℕ) (q : Pen) (Y : List ℕ) where
+module _ {A : Type 0} {enc : A → List ℕ} {g : List Item → Got A} {T : ℕ → List Item} {m : ℕ} {p : Pen} {X : List ℕ} {q : Pen} {Y : List ℕ} where
   -- here h gets the same
   pub writes-as : (h : List Item → Got A) → g (T (p .next)) ≡ h (T (p .next)) → Writes enc h T m p X q Y → Writes enc g T m p X q Y
   writes-as h e k = record { still = k .still; goes = λ z l. rw e (k .goes z l) }
@@ -20,7 +20,7 @@ module _ {A : Type 0} (enc : A → List ℕ) (g : List Item → Got A) (T : ℕ 
   pub writes-none : g (T (p .next)) ≡ no → q .off ≡ true → Writes enc g T m p X q Y
   writes-none e k = record { still = λ _. k; goes = λ z l. rw e k }
 
-module _ (n v : ℕ) (T : ℕ → List Item) (m : ℕ) (p : Pen) (X : List ℕ) (q : Pen) (Y : List ℕ) where
+module _ {n v : ℕ} {T : ℕ → List Item} {m : ℕ} {p : Pen} {X : List ℕ} {q : Pen} {Y : List ℕ} where
   -- the bits of a number that is known already
   pub ink-writes : Inks p X n v q Y → Writes (λ a. bitsOf n a) (λ S. got v S) T m p X q Y
   ink-writes k =

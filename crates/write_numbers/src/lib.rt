@@ -59,7 +59,7 @@ pub fn write_name(
     write_number(words, m, out, p, element, tag, 0, hi)
 }
 
-// A reason: of the numbers from 0 to 30 only three are listed.
+// A reason, in the bits of a name from 0 to 30: only three are listed.
 pub fn write_reason(words: &[u64], m: usize, out: &mut [u8], p: Pen, element: u64, tag: u64) -> Pen
     requires { ⌜ (m * 4 ≤ length (now words)) × (m < 2 ^ 32) × (spanTag tag ≡ false) ⌝ }
     ensures { λ r. ⌜ ((b : ℕ → ℕ) (y : ℕ) → Part (listed tag 30 (0 ∷ 1 ∷ 30 ∷ [])) (element, y) b (now (words .entry)) m p (now (out .entry)) r (now (out .exit))) ⌝ }
@@ -68,7 +68,7 @@ pub fn write_reason(words: &[u64], m: usize, out: &mut [u8], p: Pen, element: u6
     if i < m {
         match words[i * 4 + 2] {
             0 | 1 | 30 => {
-                return write_number(words, m, out, p, element, tag, 0, 30);
+                return write_name(words, m, out, p, element, tag, 30);
             }
             _ => {}
         }

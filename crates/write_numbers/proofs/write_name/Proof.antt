@@ -1,3 +1,4 @@
+use Prim.Native.Nat.{_+_, _*_}
 use native.Mathlib.Omega.{arith}
 use borrow.Author.Needs.{needs}
 use Rattle.write_numbers.proofs.NumberLaws.{name-written}
@@ -17,9 +18,7 @@ same-length c = search needs
 
 -- src/lib.rt:47:1
 returns : tie.Need-returns
-returns c =
-    let a = (c .before .before .before .before .before .before .args) in
-    λ b y. name-written b (a .words .now) (a .m) (a .tag) (a .element) y (a .p) _ (a .out .now) _ (a .hi) (λ i. omega (arith, (c .before .before .before .before .before .shared-slice-known .given) i)) ((c .before .before .write-number .ensures) b y)
+returns c = λ b y. name-written b _ _ _ _ y _ _ (omega (arith, (c .before .before .before .before .before .shared-slice-known .given) ((c .before .before .before .before .before .before .args .p .next) * 4 + 2))) ((c .before .before .write-number .ensures) b y)
 
 pub write-name-spec : {M : Type 1} → statement M
 write-name-spec = tie.close (tie.spec write-number-requires same-length returns)

@@ -1,5 +1,4 @@
 use mathlib.Core.Logic.{⊎-elim}
-use Prim.Native.Nat.{_+_, _*_}
 use native.Mathlib.Omega.{arith}
 use borrow.Author.Needs.{needs}
 use Rattle.write_numbers.proofs.NumberLaws.{ink-fits, number-written, number-over, number-missing}
@@ -47,7 +46,7 @@ bits-for-requires c κs = search needs
 
 -- src/lib.rt:40:13
 ink-requires : tie.Need-ink-requires
-ink-requires c κs = ink-fits ((c .before .before .before .if2 .taken)) ((c .before .bits-for .ensures))
+ink-requires c κs = ink-fits (c .before .before .before .if2 .taken) (c .before .bits-for .ensures)
 
 -- src/lib.rt:40:13
 same-length : tie.Need-same-length
@@ -57,35 +56,7 @@ same-length c = search needs
 returns : tie.Need-returns
 returns c =
     λ b y.
-    number-written
-    b
-    _
-    _
-    _
-    _
-    y
-    _
-    _
-    _
-    _
-    ((c .before .before .before .before .before .before .before .before .before .before .before .before .before .args .lo))
-    _
-    _
-    _
-    (omega (arith, (c .before .before .before .before .before .before .before .before .before .before .before .before .before .good)))
-    (omega (arith, (c .before .before .before .before .before .before .before .before .before .before .before .before .before .good)))
-    (omega (arith, (c .before .before .before .before .before .before .before .before .before .before .before .before .shared-slice-known .given) ((c .before .before .before .before .before .before .before .before .before .before .before .before .before .args .p .next) * 4 + 2)))
-    (omega arith)
-    (omega arith)
-    (c .before .before .before .before .before .before .before .before .before .before .if1 .taken)
-    (c .before .before .before .before .before .before .before .before .wrapping-sub-u64 .ensures)
-    (c .before .before .before .before .before .before .before .wrapping-sub-u642 .ensures)
-    _
-    _
-    (c .before .before .before .before .before .before .if2 .taken)
-    ((c .before .before .before .before .bits-for .ensures) .0)
-    ((c .before .before .before .before .before .take .ensures) b _)
-    (c .before .before .ink .ensures)
+    number-written b _ _ _ _ y _ _ _ _ _ (omega (arith, (c .before .before .before .before .before .before .before .before .before .before .before .before .before .good))) (omega arith) (omega arith) (c .before .before .before .before .before .before .before .before .wrapping-sub-u64 .ensures) (c .before .before .before .before .before .before .before .wrapping-sub-u642 .ensures) (c .before .before .before .before .before .before .if2 .taken) ((c .before .before .before .before .bits-for .ensures) .0) ((c .before .before .before .before .before .take .ensures) b _) (c .before .before .ink .ensures)
 
 -- src/lib.rt:43:5
 refuse-requires : tie.Need-refuse-requires
@@ -95,8 +66,8 @@ refuse-requires c κs = search needs
 returns-2 : tie.Need-returns-2
 returns-2 c =
     ⊎-elim
-    (λ w. λ b y. number-over b _ _ _ _ y _ _ _ _ ((c .before .before .before .before .args .lo)) _ _ _ (omega (arith, (c .before .before .before .before .good))) (omega (arith, (c .before .before .before .before .good))) (omega (arith, (c .before .before .before .shared-slice-known .given) ((c .before .before .before .before .args .p .next) * 4 + 2))) (omega arith) (omega arith) (w .0 .taken) (w .2 .ensures) (w .3 .ensures) (w .4 .left) (c .refuse .ensures))
-    (λ w. λ b y. number-missing b _ _ _ _ y _ _ _ _ _ _ (w .left) (c .refuse .ensures))
+    (λ w. λ b y. number-over b _ _ _ _ y _ _ _ _ _ (omega (arith, (c .before .before .before .before .good))) (omega arith) (omega arith) (w .2 .ensures) (w .3 .ensures) (w .4 .left) (c .refuse .ensures))
+    (λ w. λ b y. number-missing b _ _ _ _ y _ _ _ (w .left) (c .refuse .ensures))
     (c .before .if1 .came)
 
 pub write-number-spec : {M : Type 1} → statement M
