@@ -1,3 +1,4 @@
+-- `write_spans::write_any_span` meets its contract: no unit, a short length, a long one, or one that is too long.
 use mathlib.Core.Path.{ap, _∙_}
 use Prim.Native.Nat.{_*_}
 use native.Mathlib.Omega.{arith}
@@ -11,14 +12,9 @@ use borrow.Author.Needs.{needs}
 use Rattle.write_spans.proofs.write_any_span.Statement.{statement}
 use Rattle.write_spans.proofs.write_any_span.Tie as tie
 
--- src/lib.rt:66:9
 returns : tie.Need-returns
 returns c = λ y. writes-still _ _ _ _ _ _ _ _ (c .if1 .taken) (c .if1 .taken)
 
--- src/lib.rt:68:9
--- src/lib.rt:70:9
--- src/lib.rt:70:9
--- src/lib.rt:70:9
 returns-2 : tie.Need-returns-2
 returns-2 c =
     let a = (c .before .before .before .before .before .before .before .before .before .before .args) in
@@ -26,7 +22,6 @@ returns-2 c =
     let k = (c .before .before .before .before .before .units-at) in
     λ y. any-empty (a .src .now) (a .words .now) (a .m) (a .tag) (a .element) (a .w) (l .5) (l .4) (a .p) _ _ _ (k .result) y (c .before .before .before .before .before .before .if1 .left) (k .ensures .0 (bitOf (a .src .now))) (c .before .before .before .before .if2 .taken) (c .before .before .ink .ensures)
 
--- src/lib.rt:73:9
 put-whole-requires : tie.Need-put-whole-requires
 put-whole-requires c κs =
     let a = (c .before .before .before .before .before .before .before .before .args) in
@@ -34,8 +29,6 @@ put-whole-requires c κs =
     let j = (c .before .before .before .units-at .ensures) .1 (omega (arith, (c .before .before .if2 .left))) in
     (omega (arith, j .0, l .0), omega (arith, j .0, l .1), l .2, inside-at spanTag (length (a .src .now) * 8) (a .words .now) (a .m) (l .3) (a .p .next) (j .0) (ap spanTag (j .1) ∙ l .4), l .5, omega arith, omega (arith, (c .before .if3 .taken)))
 
--- src/lib.rt:73:9
--- src/lib.rt:73:9
 returns-3 : tie.Need-returns-3
 returns-3 c =
     let a = (c .before .before .before .before .before .before .before .before .before .before .before .args) in
@@ -43,8 +36,6 @@ returns-3 c =
     let k = (c .before .before .before .before .before .before .units-at) in
     λ y. any-short (a .src .now) (a .words .now) (a .m) (a .tag) (a .element) (a .w) (l .5) (l .4) (a .p) _ _ _ (k .result) y (c .before .before .before .before .before .before .before .if1 .left) (k .ensures .0 (bitOf (a .src .now))) (k .ensures .1) (omega (arith, (c .before .before .before .before .before .if2 .left))) (c .before .before .before .before .if3 .taken) (c .before .before .put-whole .ensures)
 
--- src/lib.rt:76:62
--- src/lib.rt:76:9
 put-whole-requires-2 : tie.Need-put-whole-requires-2
 put-whole-requires-2 c κs =
     let a = (c .before .before .before .before .before .before .before .before .before .args) in
@@ -52,8 +43,6 @@ put-whole-requires-2 c κs =
     let j = (c .before .before .before .before .units-at .ensures) .1 (omega (arith, (c .before .before .if3 .left))) in
     (omega (arith, j .0, l .0), omega (arith, j .0, l .1), l .2, inside-at spanTag (length (a .src .now) * 8) (a .words .now) (a .m) (l .3) (a .p .next) (j .0) (ap spanTag (j .1) ∙ l .4), l .5, omega arith, omega (arith, (c .before .if4 .taken)))
 
--- src/lib.rt:76:9
--- src/lib.rt:76:9
 returns-4 : tie.Need-returns-4
 returns-4 c =
     let a = (c .before .before .before .before .before .before .before .before .before .before .before .before .args) in
@@ -61,8 +50,6 @@ returns-4 c =
     let k = (c .before .before .before .before .before .before .before .units-at) in
     λ y. any-long (a .src .now) (a .words .now) (a .m) (a .tag) (a .element) (a .w) (l .5) (l .4) (a .p) _ _ _ (k .result) y (c .before .before .before .before .before .before .before .before .if1 .left) (k .ensures .0 (bitOf (a .src .now))) (k .ensures .1) (c .before .before .before .before .before .if3 .left) (c .before .before .before .before .if4 .taken) (c .before .before .put-whole2 .ensures)
 
--- src/lib.rt:78:5
--- src/lib.rt:52:1
 returns-5 : tie.Need-returns-5
 returns-5 c =
     let a = (c .before .before .before .before .before .before .before .before .before .args) in

@@ -1,3 +1,4 @@
+-- `write_spans::write_span` meets its contract: the size is out of range, or the span in front is put behind it.
 use mathlib.Core.Path.{ap, _∙_}
 use Prim.Native.Nat.{_*_}
 use native.Mathlib.Omega.{arith}
@@ -11,13 +12,9 @@ use borrow.Author.Needs.{needs}
 use Rattle.write_spans.proofs.write_span.Statement.{statement}
 use Rattle.write_spans.proofs.write_span.Tie as tie
 
--- src/lib.rt:39:9
 returns : tie.Need-returns
 returns c = λ y. writes-still _ _ _ _ _ _ _ _ (c .if1 .taken) (c .if1 .taken)
 
--- src/lib.rt:41:9
--- src/lib.rt:43:9
--- src/lib.rt:43:9
 returns-2 : tie.Need-returns-2
 returns-2 c =
     let a = (c .before .before .before .before .before .before .before .args) in
@@ -25,8 +22,6 @@ returns-2 c =
     let k = (c .before .before .units-at) in
     λ y. span-small (a .src .now) (a .words .now) (a .m) (a .tag) (a .element) (a .w) (l .5) (l .4) (a .p) _ _ _ (k .result) y (c .before .before .before .if1 .left) (k .ensures .0 (bitOf (a .src .now))) (a .lo) (a .hi) (c .before .if2 .taken) (c .refuse .ensures)
 
--- src/lib.rt:46:9
--- src/lib.rt:46:9
 returns-3 : tie.Need-returns-3
 returns-3 c =
     let a = (c .before .before .before .before .before .before .before .before .args) in
@@ -34,9 +29,6 @@ returns-3 c =
     let k = (c .before .before .before .units-at) in
     λ y. span-large (a .src .now) (a .words .now) (a .m) (a .tag) (a .element) (a .w) (l .5) (l .4) (a .p) _ _ _ (k .result) y (c .before .before .before .before .if1 .left) (k .ensures .0 (bitOf (a .src .now))) (a .lo) (a .hi) (c .before .before .if2 .left) (c .before .if3 .taken) (c .refuse2 .ensures)
 
--- src/lib.rt:48:56
--- src/lib.rt:48:47
--- src/lib.rt:48:5
 put-whole-requires : tie.Need-put-whole-requires
 put-whole-requires c κs =
     let a = (c .before .before .before .before .before .before .before .before .before .args) in
@@ -45,8 +37,6 @@ put-whole-requires c κs =
     let b = (c .bits-for .ensures) in
     (omega (arith, j .0, l .0), omega (arith, j .0, l .1), l .2, inside-at spanTag (length (a .src .now) * 8) (a .words .now) (a .m) (l .3) (a .p .next) (j .0) (ap spanTag (j .1) ∙ l .4), l .5, b .1, size-fits (a .lo) (a .hi) (c .before .before .before .before .units-at .result) _ (c .before .before .if3 .left) (b .0))
 
--- src/lib.rt:23:1
--- src/lib.rt:23:1
 returns-4 : tie.Need-returns-4
 returns-4 c =
     let a = (c .before .before .before .before .before .before .before .before .before .before .before .before .args) in

@@ -1,3 +1,4 @@
+-- `write_spans::inside::has_bits` meets its contract: octets are counted by quotients.
 use Prim.Native.Nat.{_+_, _*_}
 use native.Mathlib.Omega.{arith}
 use lib.ListN.{length}
@@ -7,11 +8,6 @@ use borrow.Author.Needs.{needs}
 use Rattle.write_spans.proofs.inside.has_bits.Statement.{statement}
 use Rattle.write_spans.proofs.inside.has_bits.Tie as tie
 
--- src/inside.rt:40:5
--- src/inside.rt:40:25
--- src/inside.rt:40:25
--- src/inside.rt:40:5
--- src/inside.rt:37:1
 returns : tie.Need-returns
 returns c = leb-tells _ ((c .args .from) + (c .args .n)) (length (c .args .src .now) * 8) (λ t. omega (arith, leb-true)) (λ t. omega (arith, leb-false))
 

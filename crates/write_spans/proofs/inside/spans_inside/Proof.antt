@@ -1,3 +1,4 @@
+-- `write_spans::inside::spans_inside` meets its contract. The loop's invariant: whether all lie inside is whether those from record i on do.
 use mathlib.Core.Path.{_≡_, refl, sym, _∙_}
 use Prim.Native.Nat.{_-_, _*_, _≤_}
 use native.Mathlib.Omega.{arith}
@@ -17,37 +18,30 @@ Inv-loop words m src i₀ i = (inside spanTag (length src * 8) (rest words m 0) 
 abbrev μ-loop : tie.MeasureT-loop
 μ-loop words m src i₀ i = m - i
 
--- src/inside.rt:61:5
 loop-holds : tie.Need-loop-holds Inv-loop μ-loop
 loop-holds c = (refl, omega arith)
 
--- src/inside.rt:62:13
 is-inside-requires : tie.Need-is-inside-requires Inv-loop μ-loop
 is-inside-requires c κs = search needs
 
--- src/inside.rt:63:13
 returns : tie.Need-returns Inv-loop μ-loop
 returns c =
     let a = (c .before .before .before .before .before .before .args) in
     let z = (c .before .before .before .loop) in
     sym (z .inv .0 ∙ inside-not spanTag (length (a .src .now) * 8) (a .words .now) (a .m) (z .i) (c .before .before .loop-test .taken) (c .before .is-inside .ensures) (not-true _ (c .if1 .taken)))
 
--- src/inside.rt:65:9
 add-i : tie.Need-add-i Inv-loop μ-loop
 add-i c = search needs
 
--- src/inside.rt:61:5
 loop-less : tie.Need-loop-less Inv-loop μ-loop
 loop-less c = search needs
 
--- src/inside.rt:61:5
 loop-again : tie.Need-loop-again Inv-loop μ-loop
 loop-again c =
     let a = (c .before .before .before .before .before .before .args) in
     let z = (c .before .before .before .loop) in
     (z .inv .0 ∙ inside-next spanTag (length (a .src .now) * 8) (a .words .now) (a .m) (z .i) (c .before .before .loop-test .taken) (c .before .is-inside .ensures) (not-false _ (c .if1 .left)), omega (arith, (c .before .before .loop-test .taken)))
 
--- src/inside.rt:56:1
 returns-2 : tie.Need-returns-2 Inv-loop μ-loop
 returns-2 c =
     let a = (c .before .before .before .before .args) in

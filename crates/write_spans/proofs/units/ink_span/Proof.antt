@@ -1,17 +1,13 @@
+-- `write_spans::units::ink_span` meets its contract.
 use mathlib.Core.Path.{refl}
 use Rattle.write_spans.proofs.SpanWrites.{stretch-far, stretch-near}
 use borrow.Author.Needs.{needs}
 use Rattle.write_spans.proofs.units.ink_span.Statement.{statement}
 use Rattle.write_spans.proofs.units.ink_span.Tie as tie
 
--- src/units.rt:52:9
 returns : tie.Need-returns
 returns c = stretch-far _ _ _ _ _ _ (c .if1 .taken)
 
--- src/units.rt:54:5
--- src/units.rt:57:13
--- src/units.rt:46:1
--- src/units.rt:46:1
 returns-2 : tie.Need-returns-2
 returns-2 c = stretch-near _ _ _ _ _ _ _ refl refl refl (c .before .before .put-span .ensures)
 

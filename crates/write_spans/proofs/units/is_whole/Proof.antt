@@ -1,21 +1,12 @@
+-- `write_spans::units::is_whole` meets its contract.
 use Rattle.write_spans.proofs.RecordLaws.{whole-same, whole-other}
 use borrow.Author.Needs.{needs}
 use Rattle.write_spans.proofs.units.is_whole.Statement.{statement}
 use Rattle.write_spans.proofs.units.is_whole.Tie as tie
 
--- src/units.rt:38:13
--- src/units.rt:39:14
--- src/units.rt:39:8
--- src/units.rt:39:8
--- src/units.rt:40:22
--- src/units.rt:40:16
--- src/units.rt:40:16
--- src/units.rt:40:16
--- src/units.rt:40:9
 returns : tie.Need-returns
 returns c = whole-same (c .before .before .before .args .words .now) (c .before .before .before .args .i) (c .before .before .before .args .element) (c .before .before .before .args .w) (c .before .if1 .taken)
 
--- src/units.rt:34:1
 returns-2 : tie.Need-returns-2
 returns-2 c = whole-other (c .before .before .args .words .now) (c .before .before .args .i) (c .before .before .args .element) (c .before .before .args .w) (c .if1 .left)
 

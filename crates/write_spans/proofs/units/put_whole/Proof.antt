@@ -1,27 +1,13 @@
+-- `write_spans::units::put_whole` meets its contract: bits put behind bits.
 use mathlib.Core.Path.{refl, sym, _∙_}
 use Rattle.write_spans.proofs.SpanWrites.{sends-not, sends-both}
 use borrow.Author.Needs.{needs}
 use Rattle.write_spans.proofs.units.put_whole.Statement.{statement}
 use Rattle.write_spans.proofs.units.put_whole.Tie as tie
 
--- src/units.rt:77:8
--- src/units.rt:78:17
--- src/units.rt:79:26
--- src/units.rt:79:20
--- src/units.rt:79:20
--- src/units.rt:80:26
--- src/units.rt:80:20
--- src/units.rt:80:20
--- src/units.rt:81:13
--- src/units.rt:82:13
--- src/units.rt:84:19
--- src/units.rt:83:9
--- src/units.rt:83:9
 returns : tie.Need-returns
 returns c = sends-both _ _ _ _ _ _ _ _ _ _ _ _ _ (sym (c .before .before .before .before .before .before .before .before .before .before .before .is-whole .ensures) ∙ (c .before .before .before .before .before .before .before .before .before .before .if1 .taken)) (c .before .before .before .before .before .before .ink .ensures) (c .before .before .ink-span .ensures) refl refl refl
 
--- src/units.rt:89:5
--- src/units.rt:63:1
 returns-2 : tie.Need-returns-2
 returns-2 c = sends-not _ _ _ _ _ _ _ _ _ _ (sym (c .before .before .is-whole .ensures) ∙ (c .before .if1 .left)) (c .refuse .ensures)
 

@@ -1,29 +1,20 @@
+-- `write_spans::units::units_at` meets its contract: by the end of the list, or by the tag in front.
 use native.Mathlib.Omega.{arith}
 use Rattle.write_spans.proofs.RecordLaws.{units-end, units-other, units-there}
 use borrow.Author.Needs.{needs}
 use Rattle.write_spans.proofs.units.units_at.Statement.{statement}
 use Rattle.write_spans.proofs.units.units_at.Tie as tie
 
--- src/units.rt:25:17
--- src/units.rt:26:12
--- src/units.rt:26:12
--- src/units.rt:27:26
--- src/units.rt:27:20
--- src/units.rt:27:20
--- src/units.rt:27:20
--- src/units.rt:27:13
 returns : tie.Need-returns
 returns c =
     let a = (c .before .before .before .before .args) in
     (λ b. units-there b (a .words .now) (a .m) (a .i) (a .tag) (a .w) (c .before .before .before .if1 .taken) (c .before .if2 .taken) ((c .before .before .before .before .pre) .2), λ _. ((c .before .before .before .if1 .taken), (c .before .if2 .taken)))
 
--- src/units.rt:20:1
 returns-2 : tie.Need-returns-2
 returns-2 c =
     let a = (c .before .before .before .args) in
     (λ b. units-other b (a .words .now) (a .m) (a .i) (a .tag) (a .w) (c .before .before .if1 .taken) (c .if2 .left), λ h. absurd (omega (arith, h)))
 
--- src/units.rt:20:1
 returns-3 : tie.Need-returns-3
 returns-3 c =
     let a = (c .before .args) in
