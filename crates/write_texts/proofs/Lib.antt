@@ -1,7 +1,8 @@
-pub mod Steps
-pub mod Words
-pub mod Records
-pub mod Texts
-pub mod Pens
-pub mod Written
-pub mod Whole
+pub mod GotLaws
+pub mod WordLaws
+pub mod RecordLaws
+pub mod TextLaws
+pub mod PartLaws
+pub mod WordWrites
+pub mod RecordWrites
+pub mod TextWrites

@@ -1,3 +1,4 @@
+-- `write_texts::record::write_records` meets its contract. The loop's invariant: what writes the characters that are left, from here on, writes them all.
 use mathlib.Core.Path.{_≡_, refl}
 use mathlib.Core.List.{List}
 use Prim.Native.Nat.{ℕ, _+_, _/_}
@@ -9,13 +10,9 @@ use Rattle.pens.specs.declared.Pen.{Pen}
 use Rattle.pens.specs.Rest.{items}
 use Rattle.pens.specs.Writes.{Writes}
 use Rattle.write_texts.specs.Letters.{inRecords}
-use Rattle.write_texts.proofs.Written.{records-turn, records-end}
+use Rattle.write_texts.proofs.RecordWrites.{records-turn, records-end}
 use Rattle.write_texts.proofs.record.write_records.Statement.{statement}
 use Rattle.write_texts.proofs.record.write_records.Tie as tie
-use Rattle.write_texts.proofs.record.write_records.Reads as reads
-use Rattle.write_texts.proofs.record.write_records.Lts as lts
-use Rattle.write_texts.proofs.record.in_record.Reads as in-record-reads
-use Rattle.write_texts.proofs.record.write_record.Reads as write-record-reads
 
 abbrev Inv-loop : tie.InvT-loop
 Inv-loop words m out₀ element tag n c size q₀ left₀ out q left =
@@ -24,27 +21,21 @@ Inv-loop words m out₀ element tag n c size q₀ left₀ out q left =
 abbrev μ-loop : tie.MeasureT-loop
 μ-loop words m out₀ element tag n c size q₀ left₀ out q left = left
 
--- src/record.rt:68:5
 loop-holds : tie.Need-loop-holds Inv-loop μ-loop
 loop-holds c = (refl, λ b r Z x. x)
 
--- src/record.rt:69:13
 in-record-requires : tie.Need-in-record-requires Inv-loop μ-loop
 in-record-requires c κs = search needs
 
--- src/record.rt:70:9
 write-record-requires : tie.Need-write-record-requires Inv-loop μ-loop
 write-record-requires c κs = search needs
 
--- src/record.rt:71:9
 sub-left : tie.Need-sub-left Inv-loop μ-loop
 sub-left c = omega arith
 
--- src/record.rt:68:5
 loop-less : tie.Need-loop-less Inv-loop μ-loop
 loop-less c = omega arith
 
--- src/record.rt:68:5
 loop-again : tie.Need-loop-again Inv-loop μ-loop
 loop-again c =
     let z = (c .before .before .before .before .before .before .loop) in (
@@ -52,11 +43,9 @@ loop-again c =
       λ b r Z x. z .inv .1 b r Z (records-turn _ _ _ _ _ _ _ (z .left) _ _ _ _ _ _ _ (c .before .before .before .before .before .loop-test .taken) (c .before .before .before .before .in-record .ensures) ((c .before .before .write-record .ensures) b) x),
     )
 
--- src/record.rt:52:1
 same-length : tie.Need-same-length Inv-loop μ-loop
 same-length c = (c .before .loop .inv) .0
 
--- src/record.rt:52:1
 returns : tie.Need-returns Inv-loop μ-loop
 returns c = λ b. (c .before .loop .inv) .1 b _ _ (records-end _ _ _ _ _ _ _ _ _ _ (omega arith))
 
@@ -64,13 +53,4 @@ pub write-records-spec : {M : Type 1} → statement M
 write-records-spec =
     tie.close
     (tie.spec
-    Inv-loop
-    μ-loop
-    loop-holds
-    in-record-requires
-    write-record-requires
-    sub-left
-    loop-less
-    loop-again
-    same-length
-    returns)
+    Inv-loop μ-loop loop-holds in-record-requires write-record-requires sub-left loop-less loop-again same-length returns)

@@ -1,4 +1,5 @@
-use mathlib.Core.Path.{_≡_, refl, sym, ap, _∙_}
+-- `write_texts::word::write_word` meets its contract. The loop's invariant: what writes the characters that are left, from here on, writes them all.
+use mathlib.Core.Path.{_≡_, refl}
 use mathlib.Core.List.{List}
 use Prim.Native.Nat.{ℕ, _-_, _*_, _≤_}
 use native.Mathlib.Omega.{arith}
@@ -10,13 +11,9 @@ use Rattle.pens.specs.declared.Pen.{Pen}
 use Rattle.pens.specs.Writes.{Writes}
 use Rattle.per.proofs.Laws.{one-shl, one-shl-pos}
 use Rattle.write_texts.specs.Letters.{inWord}
-use Rattle.write_texts.proofs.Written.{word-turn, word-ends, word-goes-on}
+use Rattle.write_texts.proofs.WordWrites.{word-turn, word-ends, word-goes-on}
 use Rattle.write_texts.proofs.word.write_word.Statement.{statement}
 use Rattle.write_texts.proofs.word.write_word.Tie as tie
-use Rattle.write_texts.proofs.word.write_word.Reads as reads
-use Rattle.write_texts.proofs.word.write_word.Lts as lts
-use Rattle.pens.proofs.refuse.Reads as refuse-reads
-use Rattle.write_texts.proofs.word.write_character.Reads as write-character-reads
 
 abbrev Inv-loop : tie.InvT-loop
 Inv-loop out₀ w k n c spare q₀ rest₀ octets₀ out q rest octets =
@@ -32,43 +29,33 @@ back-again k h = omega arith
 no-more : (a b : ℕ) → a ≤ b → a - b ≡ 0
 no-more a b h = omega arith
 
--- src/word.rt:33:17
 sub-spare : tie.Need-sub-spare Inv-loop μ-loop
 sub-spare c = omega arith
 
--- src/word.rt:37:5
 loop-holds : tie.Need-loop-holds Inv-loop μ-loop
 loop-holds c = (omega arith, omega arith, refl, λ T m r Z x. rw (back-again _ ((c .before .pre) .1)) at x)
 
--- src/word.rt:38:9
 sub-octets : tie.Need-sub-octets Inv-loop μ-loop
 sub-octets c = omega arith
 
--- src/word.rt:39:19
 mul-low : tie.Need-mul-low Inv-loop μ-loop
 mul-low c = omega arith
 
--- src/word.rt:40:37
 shr-write-character : tie.Need-shr-write-character Inv-loop μ-loop
 shr-write-character c = omega arith
 
--- src/word.rt:40:9
 write-character-requires : tie.Need-write-character-requires Inv-loop μ-loop
 write-character-requires c κs = search needs
 
--- src/word.rt:41:24
 shl-rest : tie.Need-shl-rest Inv-loop μ-loop
 shl-rest c = omega arith
 
--- src/word.rt:41:16
 rem-rest : tie.Need-rem-rest Inv-loop μ-loop
 rem-rest c = one-shl-pos _ (omega arith)
 
--- src/word.rt:37:5
 loop-less : tie.Need-loop-less Inv-loop μ-loop
 loop-less c = omega arith
 
--- src/word.rt:37:5
 loop-again : tie.Need-loop-again Inv-loop μ-loop
 loop-again c =
     let z = (c .before .before .before .before .before .loop) in (
@@ -78,23 +65,18 @@ loop-again c =
       λ T m r Z x. z .inv .3 T m r Z (word-turn _ _ T m (z .octets) _ (z .rest) _ _ _ _ _ _ (c .before .before .before .before .loop-test .taken) ((c .before .before .write-character .ensures) T m) (rw (one-shl ((z .octets - 1) * 8) (omega arith)) at x)),
     )
 
--- src/word.rt:44:9
 same-length : tie.Need-same-length Inv-loop μ-loop
 same-length c = (c .before .before .loop .inv) .2
 
--- src/word.rt:44:9
 returns : tie.Need-returns Inv-loop μ-loop
 returns c = λ T m. (c .before .before .loop .inv) .3 T m _ _ (rw (no-more _ _ (c .before .loop-test .left)) (word-ends _ _ T m _ _ _ _ (c .if1 .taken)))
 
--- src/word.rt:46:5
 refuse-requires : tie.Need-refuse-requires Inv-loop μ-loop
 refuse-requires c κs = search needs
 
--- src/word.rt:29:1
 same-length-2 : tie.Need-same-length-2 Inv-loop μ-loop
 same-length-2 c = (c .before .before .before .loop .inv) .2
 
--- src/word.rt:29:1
 returns-2 : tie.Need-returns-2 Inv-loop μ-loop
 returns-2 c = λ T m. (c .before .before .before .loop .inv) .3 T m _ _ (rw (no-more _ _ (c .before .before .loop-test .left)) (word-goes-on _ _ T m _ _ _ _ _ _ (c .before .if1 .left) (c .refuse .ensures)))
 
@@ -102,20 +84,5 @@ pub write-word-spec : {M : Type 1} → statement M
 write-word-spec =
     tie.close
     (tie.spec
-    Inv-loop
-    μ-loop
-    sub-spare
-    loop-holds
-    sub-octets
-    mul-low
-    shr-write-character
-    write-character-requires
-    shl-rest
-    rem-rest
-    loop-less
-    loop-again
-    same-length
-    returns
-    refuse-requires
-    same-length-2
-    returns-2)
+    Inv-loop μ-loop sub-spare loop-holds sub-octets mul-low shr-write-character write-character-requires shl-rest rem-rest loop-less loop-again
+    same-length returns refuse-requires same-length-2 returns-2)

@@ -1,20 +1,18 @@
 -- Characters are got from records just where these are what the characters show.
-use mathlib.Core.Path.{_≡_, refl, sym, ap, _∙_}
-use mathlib.Core.Bool.{Bool, true, false, cond, _&&_}
+use mathlib.Core.Path.{_≡_, refl, ap, _∙_}
 use mathlib.Core.List.{List, [], _∷_, _++_}
 use Prim.Native.Nat.{ℕ, zero, suc, _+_, _-_, _*_, _≤_, _<_, min}
 use native.Mathlib.Omega.{arith}
-use lib.ListN.{length, take, drop, length-append, length-take, length-drop, take-append-drop}
-use lib.Dec.{eqb}
+use lib.ListN.{length, take, drop, length-append, length-drop, take-append-drop}
 use borrow.Author.Tests.{eq-eqb}
 use Rattle.x691.specs.Range.{All}
 use Rattle.atn.specs.Reading.{octets, coded}
 use Rattle.record_lists.specs.Items.{Item, plain}
 use Rattle.record_lists.specs.Shown.{packed}
-use Rattle.record_lists.specs.Parse.{valueIn, valueOf, same, Got, no, got, peel, feed, turn}
-use Rattle.write_texts.specs.Letters.{inWord, inRecord, inRecords}
-use Rattle.write_texts.proofs.Steps.{nothing, feed-inv, turn-inv, peel-inv}
-use Rattle.write_texts.proofs.Words.{word-inv, word-go}
+use Rattle.record_lists.specs.Parse.{valueIn, valueOf, same, got, peel, feed, turn}
+use Rattle.write_texts.specs.Letters.{inRecord, inRecords}
+use Rattle.write_texts.proofs.GotLaws.{feed-inv, turn-inv, peel-inv}
+use Rattle.write_texts.proofs.WordLaws.{word-inv, word-go}
 
 ---------------------------------------------------------------- the first eight characters, and the others
 

@@ -1,16 +1,15 @@
 -- The text that a format gets from a list is that of its records, where the size is one that the format has.
 use mathlib.Core.Path.{_≡_, refl, sym, ap, _∙_}
-use mathlib.Core.Bool.{Bool, true, false, cond, not, _&&_, _||_}
+use mathlib.Core.Bool.{false}
 use mathlib.Core.List.{List, [], _∷_, _++_}
-use Prim.Native.Nat.{ℕ, zero, suc, _+_, _-_, _*_, _/_, _≤_, _<_}
+use Prim.Native.Nat.{ℕ, suc, _+_, _/_, _≤_, _<_}
 use native.Mathlib.Omega.{arith}
 use lib.ListN.{length}
-use lib.Dec.{eqb}
 use borrow.Author.Tests.{eq-eqb, le-leb}
-use Rattle.x691.specs.Range.{All, member, InRange}
-use Rattle.atn.specs.Format.{text, typeOf}
+use Rattle.x691.specs.Range.{All, member}
+use Rattle.atn.specs.Format.{text}
 use Rattle.atn.specs.Reading.{coded}
-use Rattle.record_lists.specs.Items.{Item, plain, bits, tagOf}
+use Rattle.record_lists.specs.Items.{Item, tagOf}
 use Rattle.record_lists.specs.Clear.{clear}
 use Rattle.record_lists.specs.Shown.{packed, spelt, shown}
 use Rattle.record_lists.specs.Parse.{Got, no, got, parse}
@@ -18,8 +17,8 @@ use Rattle.record_lists.proofs.First.{Follows}
 use Rattle.record_lists.proofs.Forth.{forth}
 use Rattle.record_lists.proofs.Back.{back}
 use Rattle.write_texts.specs.Letters.{inRecords}
-use Rattle.write_texts.proofs.Steps.{nothing}
-use Rattle.write_texts.proofs.Records.{records-inv, records-go}
+use Rattle.write_texts.proofs.GotLaws.{nothing}
+use Rattle.write_texts.proofs.RecordLaws.{records-inv, records-go}
 
 pub length-coded : (c : ℕ) (cs : List ℕ) → length (coded c cs) ≡ length cs
 unfolding coded

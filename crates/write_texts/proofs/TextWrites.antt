@@ -1,5 +1,5 @@
--- A text written: its size, and then its records.
-use mathlib.Core.Path.{_≡_, refl, sym, ap, _∙_}
+-- A text written: its size, and then its records, where the format gets one.
+use mathlib.Core.Path.{_≡_, refl, sym, _∙_}
 use mathlib.Core.Bool.{Bool, true, false, cond}
 use mathlib.Core.List.{List, [], _∷_, _++_}
 use Prim.Native.Nat.{ℕ, zero, suc, _+_, _-_, _*_, _/_, _≤_, _<_}
@@ -7,22 +7,22 @@ use native.Mathlib.Omega.{arith}
 use lib.ListN.{length, getD}
 use Rattle.x691.specs.Bits.{bitsOf, stretch}
 use Rattle.x691.specs.Encoding.{width, sizeBits, unitBits, encode}
-use Rattle.atn.specs.Format.{text, typeOf}
+use Rattle.atn.specs.Format.{text}
 use Rattle.atn.specs.Reading.{octets, coded}
 use Rattle.record_lists.specs.Items.{Item, plain, bits}
 use Rattle.record_lists.specs.Kinds.{spanTag}
 use Rattle.record_lists.specs.Shown.{packed, spelt}
-use Rattle.record_lists.specs.Parse.{Got, no, got, feed, turn, parse}
+use Rattle.record_lists.specs.Parse.{no, got, feed, parse}
 use Rattle.pens.specs.declared.Pen.{Pen}
 use Rattle.pens.specs.Rest.{items}
 use Rattle.pens.specs.Writes.{Writes, Inks, Part}
 use Rattle.pens.proofs.RestLaws.{itemOf, items-end, items-cons}
 use Rattle.pens.proofs.PenLaws.{then-writes}
 use Rattle.write_texts.specs.Letters.{inRecords}
-use Rattle.write_texts.proofs.Steps.{turn-same}
-use Rattle.write_texts.proofs.Records.{records-inv}
-use Rattle.write_texts.proofs.Texts.{length-coded, good-size, other-size}
-use Rattle.write_texts.proofs.Pens.{writes-as, writes-none, writes-ink}
+use Rattle.write_texts.proofs.GotLaws.{turn-same}
+use Rattle.write_texts.proofs.RecordLaws.{records-inv}
+use Rattle.write_texts.proofs.TextLaws.{length-coded, good-size, other-size}
+use Rattle.write_texts.proofs.PartLaws.{writes-as, writes-none, writes-ink}
 
 -- the second number of the front record is the size
 second-of : (b : ℕ → ℕ) (u f w r t e x k : ℕ) → itemOf b u f w r ≡ plain t e x k → k ≡ r

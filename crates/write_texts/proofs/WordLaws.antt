@@ -1,21 +1,21 @@
 -- Characters are got from a word just where it is their octets.
 use mathlib.Core.Path.{_≡_, refl, sym, ap, _∙_}
-use mathlib.Core.Bool.{Bool, true, false, cond, _&&_}
-use mathlib.Core.List.{List, [], _∷_, _++_}
+use mathlib.Core.Bool.{_&&_}
+use mathlib.Core.List.{List, [], _∷_}
 use Prim.Native.Nat.{ℕ, zero, suc, _+_, _-_, _*_, _/_, _%_, _^_, _≤_, _<_, min}
 use native.Mathlib.Omega.{arith}
 use native.Mathlib.Nat.{mod-eq-of-lt, div-eq-of-lt, mul-add-div-right, mul-add-mod-self-right, pow-succ', one-le-pow, add-zero, div-add-mod'}
 use lib.ListN.{length, take}
 use lib.Dec.{leb, ltb, eqb}
 use lib.Arith.{digits-lt}
-use borrow.Author.Tests.{ltb-true, leb-true, eqb-true, lt-ltb, le-leb, eq-eqb}
+use borrow.Author.Tests.{ltb-true, leb-true, eqb-true, lt-ltb, le-leb}
 use Rattle.x691.specs.Range.{All}
 use Rattle.atn.specs.Reading.{octets, coded}
 use Rattle.atn.proofs.Inverse.{both}
 use Rattle.record_lists.specs.Items.{Item}
-use Rattle.record_lists.specs.Parse.{Got, no, got, feed, turn}
+use Rattle.record_lists.specs.Parse.{got, feed, turn}
 use Rattle.write_texts.specs.Letters.{inOctet, inWord}
-use Rattle.write_texts.proofs.Steps.{nothing, cond-inv, feed-inv, turn-inv}
+use Rattle.write_texts.proofs.GotLaws.{nothing, cond-inv, feed-inv, turn-inv}
 
 ---------------------------------------------------------------- one octet
 

@@ -1,8 +1,8 @@
 -- What it takes that a value is got, step by step.
-use mathlib.Core.Path.{_≡_, refl, sym, ap, _∙_}
+use mathlib.Core.Path.{_≡_, refl}
 use mathlib.Core.Bool.{Bool, true, false, cond}
 use mathlib.Core.List.{List, [], _∷_}
-use Prim.Native.Nat.{ℕ, zero}
+use Prim.Native.Nat.{ℕ}
 use native.Mathlib.Omega.{arith}
 use Rattle.record_lists.specs.Items.{Item}
 use Rattle.record_lists.specs.Parse.{Got, no, got, same, peel, feed, turn}
