@@ -9,7 +9,9 @@ returns : tie.Need-returns
 returns c = λ b. record-lacks _ _ _ _ _ b _ _ _ _ _ _ _ (c .before .if1 .taken) (c .refuse .ensures)
 
 returns-2 : tie.Need-returns-2
-returns-2 c = λ b. record-in _ _ _ _ _ b (c .before .before .before .before .before .before .before .before .before .args .words .now) (c .before .before .before .before .before .before .before .before .before .args .m) _ _ _ _ _ (c .before .before .before .before .before .before .before .before .before .args .out .now) _ _ (c .before .before .before .before .before .before .if1 .left) refl ((c .before .before .before .before .take .ensures) b (c .before .before .before .before .before .before .before .before .before .args .out .now)) ((c .before .before .write-word .ensures) _ _)
+returns-2 c =
+    let a = c .before .before .before .before .before .before .before .before .before in
+    λ b. record-in _ _ _ _ _ b (a .args .words .now) (a .args .m) _ _ _ _ _ (a .args .out .now) _ _ (c .before .before .before .before .before .before .if1 .left) refl ((c .before .before .before .before .take .ensures) b (a .args .out .now)) ((c .before .before .write-word .ensures) _ _)
 
 pub write-record-spec : {M : Type 1} → statement M
 write-record-spec =
