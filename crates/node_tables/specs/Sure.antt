@@ -48,10 +48,10 @@ sureOf F S N kind a b c d e =
     ∷ (not (spanTag a) && S b)
     ∷ S a
     ∷ S a
-    ∷ ((ltb b 1000 && eqb (flags (membersFrom F N a b)) c) && sureMembers F S N a b)
-    ∷ ((ltb b 1000 && eqb (flags (membersFrom F N a b)) c) && sureMembers F S N a b)
-    ∷ ((not (spanTag a) && (leb 1 c && leb c 256)) && sureEach S b c)
-    ∷ (not (spanTag a) && sureEach S b 17)
+    ∷ (((ltb a 1000000 && ltb b 1000) && eqb (flags (membersFrom F N a b)) c) && sureMembers F S N a b)
+    ∷ (((ltb a 1000000 && ltb b 1000) && eqb (flags (membersFrom F N a b)) c) && sureMembers F S N a b)
+    ∷ ((not (spanTag a) && ltb b 1000000) && ((leb 1 c && leb c 256) && sureEach S b c))
+    ∷ ((not (spanTag a) && ltb b 1000000) && sureEach S b 17)
     ∷ ((leb a b && ltb b 1000) && (sameNumbers (firsts (F c)) (d ∷ []) && S c))
     ∷ (leb (most (F a)) 4294967296 && S a)
     ∷ S c

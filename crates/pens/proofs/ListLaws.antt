@@ -42,6 +42,7 @@ module _ (b : ℕ → ℕ) (W : List ℕ) (m : ℕ) (f : Fmt) (e i : ℕ) (p q r
       record {
         writes = record { still = λ z. z; goes = λ z l. rw h (record { on = z; left = refl; fits = l; wrote = λ _. (omega arith, refl) }) };
         counts = λ z l vs S k. let y : vs ≡ [] = empty (sym h ∙ k) in rw y;
+        few = omega arith;
       }
     where
       empty : {vs : List (Value (typeOf f))} {S U : List Item} → got [] S ≡ got vs U → vs ≡ []
@@ -56,8 +57,8 @@ module _ (b : ℕ → ℕ) (W : List ℕ) (m : ℕ) (f : Fmt) (e i : ℕ) (p q r
   repeats-end n h = ended (suc n) (rw h)
 
   -- the list is refused already
-  pub repeats-still : (n k : ℕ) → p .off ≡ true → q .off ≡ true → Repeats f e i n b W m p X q Y k
-  repeats-still n k h o = record { writes = writes-still _ _ T m p X q Y h o; counts = λ z l vs S j. differ (sym z ∙ h) }
+  pub repeats-still : (n : ℕ) → p .off ≡ true → q .off ≡ true → Repeats f e i n b W m p X q Y 0
+  repeats-still n h o = record { writes = writes-still _ _ T m p X q Y h o; counts = λ z l vs S j. differ (sym z ∙ h); few = omega arith }
 
   pub repeats-more : (n k : ℕ) → opens (firsts f) (T (p .next)) ≡ true → Part f (e, i) b W m p X q Y → Repeats f e (i + 1) n b W m q Y r Z k → Repeats f e i (suc n) b W m p X r Z (k + 1)
   unfolding several joined
@@ -68,6 +69,7 @@ module _ (b : ℕ → ℕ) (W : List ℕ) (m : ℕ) (f : Fmt) (e i : ℕ) (p q r
       record {
         writes = record { still = w .still; goes = λ z l. rw h (w .goes z l) };
         counts = λ z l vs S j. counted d z l vs S (rw h at j);
+        few = omega (arith, d .few);
       }
     where
       counted : Repeats f e (suc i) n b W m q Y r Z k → p .off ≡ false → p .next ≤ m → (vs : List (Value (typeOf f))) (S : List Item) → feed (parse f (e, i) (T (p .next))) (λ v U. turn (λ us. v ∷ us) (those (suc i) n U)) ≡ got vs S → length vs ≡ k + 1

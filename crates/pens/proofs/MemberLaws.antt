@@ -153,12 +153,13 @@ module _ (b : ℕ → ℕ) (W : List ℕ) (m : ℕ) (x : Ctx) (fl : ℕ) (p q r 
   members-unread t fs s c = absent-member (λ v. absurd v) fs s c
 
 -- a sequence: its presence bits are left out, its members put behind them
-module _ (b : ℕ → ℕ) (W : List ℕ) (m : ℕ) (x : Ctx) (p q r : Pen) (X Z : List ℕ) (fs : Flds) where
-  sequence : Skips p (flags fs) q → Members (p .at) fs x b W m q X r Z
+module _ (b : ℕ → ℕ) (W : List ℕ) (m : ℕ) (x : Ctx) (p q r : Pen) (X Z : List ℕ) (fs : Flds) (fl : ℕ) where
+  -- the presence bits stand at the pen's place, where it counts
+  sequence : (p .at ≤ limit → fl ≡ p .at) → Skips p (flags fs) q → Members fl fs x b W m q X r Z
       → Writes (λ vs. preamble (membersOf fs) vs ++ encodeMembers (membersOf fs) vs) (λ R. parseFields fs x R) (λ i. items b W m i) m p X r Z
-  sequence s c = record { still = λ z. c .still (s .off-stays ∙ z); goes = λ z l. go (parseFields fs x (items b W m (p .next))) (rw (← (s .next-stays)) (c .goes (s .off-stays ∙ z) (omega (arith, s .next-stays, l)))) }
+  sequence f s c = record { still = λ z. c .still (s .off-stays ∙ z); goes = λ z l. go (parseFields fs x (items b W m (p .next))) (rw (← (s .next-stays)) (c .goes (s .off-stays ∙ z) (omega (arith, s .next-stays, l)))) }
     where
-      go : (k : Got (Values (membersOf fs))) → WroteMembers (p .at) (λ vs. preamble (membersOf fs) vs) (λ vs. encodeMembers (membersOf fs) vs) (λ i. items b W m i) m q X r Z k
+      go : (k : Got (Values (membersOf fs))) → WroteMembers fl (λ vs. preamble (membersOf fs) vs) (λ vs. encodeMembers (membersOf fs) vs) (λ i. items b W m i) m q X r Z k
           → Wrote (λ vs. preamble (membersOf fs) vs ++ encodeMembers (membersOf fs) vs) (λ i. items b W m i) m p X r Z k
       go no w = w
       go (got vs S) w =
@@ -170,15 +171,16 @@ module _ (b : ℕ → ℕ) (W : List ℕ) (m : ℕ) (x : Ctx) (p q r : Pen) (X Z
                 let n = length-append (preamble (membersOf fs) vs) (encodeMembers (membersOf fs) vs) in
                 let k = length-preamble fs vs in
                 let i = s .moves (omega (arith, l)) in
-                let j = w .wrote (omega (arith, k, i)) (omega (arith, l, n, k, i)) in
+                let y = f (omega (arith, l)) in
+                let j = w .wrote (omega (arith, k, i, y)) (omega (arith, l, n, k, i)) in
                 let e : q .at ≡ p .at + length (preamble (membersOf fs) vs) = i ∙ ap (λ (z : ℕ). p .at + z) (sym k) in
-                (omega (arith, n, k, i, j .0), j .1 ∙ rw e (sym (setBits-join X (p .at) (preamble (membersOf fs) vs) (encodeMembers (membersOf fs) vs))));
+                (omega (arith, n, k, i, j .0), j .1 ∙ rw (e, y) (sym (setBits-join X (p .at) (preamble (membersOf fs) vs) (encodeMembers (membersOf fs) vs))));
           }
 
-  pub seq-part : Skips p (flags fs) q → Members (p .at) fs x b W m q X r Z → Part (seq fs) x b W m p X r Z
+  pub seq-part : (p .at ≤ limit → fl ≡ p .at) → Skips p (flags fs) q → Members fl fs x b W m q X r Z → Part (seq fs) x b W m p X r Z
   unfolding parse encode
-  seq-part s c = sequence s c
+  seq-part f s c = sequence f s c
 
-  pub loose-part : Skips p (flags fs) q → Members (p .at) fs x b W m q X r Z → Part (loose fs) x b W m p X r Z
+  pub loose-part : (p .at ≤ limit → fl ≡ p .at) → Skips p (flags fs) q → Members fl fs x b W m q X r Z → Part (loose fs) x b W m p X r Z
   unfolding parse encode
-  loose-part s c = sequence s c
+  loose-part f s c = sequence f s c

@@ -75,3 +75,4 @@ Members fl fs x b W m p X q Y =
 pub record Repeats (f : Fmt) (e i n : ℕ) (b : ℕ → ℕ) (W : List ℕ) (m : ℕ) (p : Pen) (X : List ℕ) (q : Pen) (Y : List ℕ) (count : ℕ) : Type 0 where
   pub writes : Writes (λ vs. joined (λ v. encode (typeOf f) v) vs) (λ R. several (λ j S. parse f (e, j) S) (λ S. opens (firsts f) S) i n R) (λ j. items b W m j) m p X q Y
   pub counts : p .off ≡ false → p .next ≤ m → (vs : List (Value (typeOf f))) (S : List Item) → several (λ j S. parse f (e, j) S) (λ S. opens (firsts f) S) i n (items b W m (p .next)) ≡ got vs S → length vs ≡ count
+  pub few : count ≤ n

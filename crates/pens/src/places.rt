@@ -34,3 +34,14 @@ pub fn put_at(out: &mut [u8], at: usize, n: usize, v: u64)
     }
     put(out, at, n, v);
 }
+
+// The pen's place, where it counts.
+pub fn place(p: Pen) -> usize
+    ensures { λ r. ⌜ (p .at ≤ limit → r ≡ p .at) × (r ≤ limit) ⌝ }
+{
+    let at = p.at;
+    if LIMIT < at {
+        return 0;
+    }
+    at
+}

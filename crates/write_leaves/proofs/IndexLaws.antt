@@ -20,8 +20,8 @@ use Rattle.pens.specs.Rest.{items}
 use Rattle.pens.specs.Writes.{limit, Took, Writes, Inks}
 use Rattle.pens.proofs.RestLaws.{itemOf, items-end, items-cons}
 use Rattle.pens.proofs.PenLaws.{writes-still, writes-no, writes-got}
-use Rattle.write_nodes.specs.declared.index.Indexed.{Indexed}
-use Rattle.write_nodes.specs.Index.{indexOf, Indexes}
+use Rattle.write_leaves.specs.declared.index.Indexed.{Indexed}
+use Rattle.write_leaves.specs.Index.{indexOf, Indexes}
 
 nothing : {A B : Type 0} {v : A} {S : List Item} → no ≡ got v S → B
 nothing h = let z : _≡_ {A = ℕ} 0 1 = cc in absurd (omega arith)
@@ -68,20 +68,20 @@ module _ (b : ℕ → ℕ) (W : List ℕ) (m t e n : ℕ) where
   index-got i h l k = index-at i h ∙ rw (k, lt-ltb (word i) n l)
 
   module _ (p : Pen) (X : List ℕ) (q : Indexed) (Y : List ℕ) where
-    pub indexes-still : p .off ≡ true → q .p .off ≡ true → Indexes t e n b W m p X q Y
-    indexes-still h o = record { writes = writes-still _ _ T m p X (q .p) Y h o; named = λ z l i S k. differ (sym z ∙ h) }
+    pub indexes-still : p .off ≡ true → q .p .off ≡ true → q .v < n → Indexes t e n b W m p X q Y
+    indexes-still h o v = record { writes = writes-still _ _ T m p X (q .p) Y h o; named = λ z l i S k. differ (sym z ∙ h); below = v }
 
-    none : p .off ≡ false → indexOf t e n (T (p .next)) ≡ no → q .p .off ≡ true → Indexes t e n b W m p X q Y
-    none h k o = record { writes = writes-no _ _ T m p X (q .p) Y h k o; named = λ z l i S j. nothing (sym k ∙ j) }
+    none : p .off ≡ false → indexOf t e n (T (p .next)) ≡ no → (q .p .off ≡ true) × (q .v ≡ 0) → 1 ≤ n → Indexes t e n b W m p X q Y
+    none h k o s = record { writes = writes-no _ _ T m p X (q .p) Y h k (o .0); named = λ z l i S j. nothing (sym k ∙ j); below = omega (arith, o .1, s) }
 
-    pub indexes-end : p .off ≡ false → m ≤ p .next → q .p .off ≡ true → Indexes t e n b W m p X q Y
-    indexes-end h l o = none h (index-end (p .next) l) o
+    pub indexes-end : p .off ≡ false → m ≤ p .next → (q .p .off ≡ true) × (q .v ≡ 0) → 1 ≤ n → Indexes t e n b W m p X q Y
+    indexes-end h l o s = none h (index-end (p .next) l) o s
 
-    pub indexes-high : p .off ≡ false → p .next < m → n ≤ word (p .next) → q .p .off ≡ true → Indexes t e n b W m p X q Y
-    indexes-high h l k o = none h (index-high (p .next) l k) o
+    pub indexes-high : p .off ≡ false → p .next < m → n ≤ word (p .next) → (q .p .off ≡ true) × (q .v ≡ 0) → 1 ≤ n → Indexes t e n b W m p X q Y
+    indexes-high h l k o s = none h (index-high (p .next) l k) o s
 
-    pub indexes-other : p .off ≡ false → p .next < m → begins (plain t e (word (p .next)) 0) (T (p .next)) ≡ false → q .p .off ≡ true → Indexes t e n b W m p X q Y
-    indexes-other h l k o = none h (index-other (p .next) l k) o
+    pub indexes-other : p .off ≡ false → p .next < m → begins (plain t e (word (p .next)) 0) (T (p .next)) ≡ false → (q .p .off ≡ true) × (q .v ≡ 0) → 1 ≤ n → Indexes t e n b W m p X q Y
+    indexes-other h l k o s = none h (index-other (p .next) l k) o s
 
     pub indexes-got : (r : Pen) → p .off ≡ false → p .next < m → word (p .next) < n → begins (plain t e (word (p .next)) 0) (T (p .next)) ≡ true
         → Inks p X (width (n - 1)) (word (p .next)) r Y → q .v ≡ word (p .next) → q .p .next ≡ p .next + 1 → q .p .at ≡ r .at → q .p .off ≡ false → Indexes t e n b W m p X q Y
@@ -99,7 +99,8 @@ module _ (b : ℕ → ℕ) (W : List ℕ) (m t e n : ℕ) where
                     let d = a .puts (omega (arith, z)) in
                     (omega (arith, y, d .0, c), d .1);
               });
-          named = λ _ _ i S c. let u : i ≡ word (p .next) = sames (sym c ∙ j) in (u ∙ sym v, omega (arith, v, k));
+          named = λ _ _ i S c. let u : i ≡ word (p .next) = sames (sym c ∙ j) in u ∙ sym v;
+          below = omega (arith, v, k);
         }
       where
         sames : {i c : ℕ} {S U : List Item} → got i S ≡ got c U → i ≡ c

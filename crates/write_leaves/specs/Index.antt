@@ -11,7 +11,7 @@ use Rattle.record_lists.specs.Parse.{Got, got, valueOf, leaf, keep}
 use Rattle.pens.specs.declared.Pen.{Pen}
 use Rattle.pens.specs.Rest.{items}
 use Rattle.pens.specs.Writes.{Writes}
-use Rattle.write_nodes.specs.declared.index.Indexed.{Indexed}
+use Rattle.write_leaves.specs.declared.index.Indexed.{Indexed}
 
 -- an index below n
 unfoldable pub indexOf : ℕ → ℕ → ℕ → List Item → Got ℕ
@@ -19,4 +19,5 @@ indexOf t e n R = keep (λ i. ltb i n) (leaf (λ i. plain t e i 0 ∷ []) (λ i.
 
 pub record Indexes (t e n : ℕ) (b : ℕ → ℕ) (W : List ℕ) (m : ℕ) (p : Pen) (X : List ℕ) (q : Indexed) (Y : List ℕ) : Type 0 where
   pub writes : Writes (λ i. bitsOf (width (n - 1)) i) (λ R. indexOf t e n R) (λ j. items b W m j) m p X (q .p) Y
-  pub named : p .off ≡ false → p .next ≤ m → (i : ℕ) (S : List Item) → indexOf t e n (items b W m (p .next)) ≡ got i S → (i ≡ q .v) × (q .v < n)
+  pub named : p .off ≡ false → p .next ≤ m → (i : ℕ) (S : List Item) → indexOf t e n (items b W m (p .next)) ≡ got i S → i ≡ q .v
+  pub below : q .v < n

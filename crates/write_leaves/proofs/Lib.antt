@@ -1,1 +1,2 @@
 pub mod IndexLaws
+pub mod LeafLaws

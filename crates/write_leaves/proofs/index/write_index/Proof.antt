@@ -1,18 +1,19 @@
 use mathlib.Core.Path.{refl, sym, _∙_}
+use native.Mathlib.Omega.{arith}
 use borrow.Author.Needs.{needs}
-use Rattle.write_nodes.proofs.IndexLaws.{indexes-still, indexes-end, indexes-high, indexes-other, indexes-got, inks-width, index-fits}
-use Rattle.write_nodes.proofs.index.write_index.Statement.{statement}
-use Rattle.write_nodes.proofs.index.write_index.Tie as tie
-use Rattle.write_nodes.proofs.index.write_index.Reads as reads
-use Rattle.write_nodes.proofs.index.write_index.Lts as lts
+use Rattle.write_leaves.proofs.IndexLaws.{indexes-still, indexes-end, indexes-high, indexes-other, indexes-got, inks-width, index-fits}
+use Rattle.write_leaves.proofs.index.write_index.Statement.{statement}
+use Rattle.write_leaves.proofs.index.write_index.Tie as tie
+use Rattle.write_leaves.proofs.index.write_index.Reads as reads
+use Rattle.write_leaves.proofs.index.write_index.Lts as lts
 use Rattle.pens.proofs.ink.Reads as ink-reads
 use Rattle.pens.proofs.is_record.Reads as is-record-reads
 use Rattle.pens.proofs.width.bits_for.Reads as bits-for-reads
-use Rattle.write_nodes.proofs.index.none.Reads as none-reads
+use Rattle.write_leaves.proofs.index.none.Reads as none-reads
 
 -- src/index.rt:25:9
 returns : tie.Need-returns
-returns c = λ b. indexes-still b (c .before .before .before .args .words .now) (c .before .before .before .args .m) (c .before .before .before .args .tag) (c .before .before .before .args .element) (c .before .before .before .args .n) _ _ _ _ (c .if1 .taken) (c .if1 .taken)
+returns c = λ b. indexes-still b (c .before .before .before .args .words .now) (c .before .before .before .args .m) (c .before .before .before .args .tag) (c .before .before .before .args .element) (c .before .before .before .args .n) _ _ _ _ (c .if1 .taken) (c .if1 .taken) (omega (arith, c .before .before .before .pre .3))
 
 -- src/index.rt:29:9
 none-requires : tie.Need-none-requires
@@ -20,7 +21,7 @@ none-requires c κs = search needs
 
 -- src/index.rt:29:9
 returns-2 : tie.Need-returns-2
-returns-2 c = λ b. indexes-end b (c .before .before .before .before .before .args .words .now) (c .before .before .before .before .before .args .m) (c .before .before .before .before .before .args .tag) (c .before .before .before .before .before .args .element) (c .before .before .before .before .before .args .n) _ _ _ _ (c .before .before .if1 .left) (c .before .if2 .taken) (c .none .ensures)
+returns-2 c = λ b. indexes-end b (c .before .before .before .before .before .args .words .now) (c .before .before .before .before .before .args .m) (c .before .before .before .before .before .args .tag) (c .before .before .before .before .before .args .element) (c .before .before .before .before .before .args .n) _ _ _ _ (c .before .before .if1 .left) (c .before .if2 .taken) (c .none .ensures) (c .before .before .before .before .before .pre .3)
 
 -- src/index.rt:31:19
 mul-v : tie.Need-mul-v
@@ -44,7 +45,7 @@ none-requires-2 c κs = search needs
 
 -- src/index.rt:33:9
 returns-3 : tie.Need-returns-3
-returns-3 c = λ b. indexes-high b (c .before .before .before .before .before .before .before .args .words .now) (c .before .before .before .before .before .before .before .args .m) (c .before .before .before .before .before .before .before .args .tag) (c .before .before .before .before .before .before .before .args .element) (c .before .before .before .before .before .before .before .args .n) _ _ _ _ (c .before .before .before .before .if1 .left) (c .before .before .before .if2 .left) (c .before .if3 .taken) (c .none2 .ensures)
+returns-3 c = λ b. indexes-high b (c .before .before .before .before .before .before .before .args .words .now) (c .before .before .before .before .before .before .before .args .m) (c .before .before .before .before .before .before .before .args .tag) (c .before .before .before .before .before .before .before .args .element) (c .before .before .before .before .before .before .before .args .n) _ _ _ _ (c .before .before .before .before .if1 .left) (c .before .before .before .if2 .left) (c .before .if3 .taken) (c .none2 .ensures) (c .before .before .before .before .before .before .before .pre .3)
 
 -- src/index.rt:35:8
 is-record-requires : tie.Need-is-record-requires
@@ -80,7 +81,7 @@ none-requires-3 c κs = search needs
 
 -- src/index.rt:20:1
 returns-5 : tie.Need-returns-5
-returns-5 c = λ b. indexes-other b (c .before .before .before .before .before .before .before .before .before .args .words .now) (c .before .before .before .before .before .before .before .before .before .args .m) (c .before .before .before .before .before .before .before .before .before .args .tag) (c .before .before .before .before .before .before .before .before .before .args .element) (c .before .before .before .before .before .before .before .before .before .args .n) _ _ _ _ (c .before .before .before .before .before .before .if1 .left) (c .before .before .before .before .before .if2 .left) (sym ((c .before .before .is-record .ensures) .0 b) ∙ (c .before .if4 .left)) (c .none3 .ensures)
+returns-5 c = λ b. indexes-other b (c .before .before .before .before .before .before .before .before .before .args .words .now) (c .before .before .before .before .before .before .before .before .before .args .m) (c .before .before .before .before .before .before .before .before .before .args .tag) (c .before .before .before .before .before .before .before .before .before .args .element) (c .before .before .before .before .before .before .before .before .before .args .n) _ _ _ _ (c .before .before .before .before .before .before .if1 .left) (c .before .before .before .before .before .if2 .left) (sym ((c .before .before .is-record .ensures) .0 b) ∙ (c .before .if4 .left)) (c .none3 .ensures) (c .before .before .before .before .before .before .before .before .before .pre .3)
 
 pub write-index-spec : {M : Type 1} → statement M
 write-index-spec =

@@ -4,7 +4,7 @@ ghost use mathlib.Core.Bool.{false, true};
 ghost use Prim.Native.Nat.{ℕ, _*_, _^_, _≤_, _<_};
 ghost use lib.ListN.{length};
 ghost use Rattle.record_lists.specs.Kinds.{spanTag};
-ghost use Rattle.write_nodes.specs.Index.{Indexes};
+ghost use Rattle.write_leaves.specs.Index.{Indexes};
 use pens::Pen;
 use pens::ink;
 use pens::is_record;
@@ -54,7 +54,7 @@ pub fn write_index(
 
 // No index: the list is refused.
 fn none(p: Pen) -> Indexed
-    ensures { λ r. ⌜ r .p .off ≡ true ⌝ }
+    ensures { λ r. ⌜ (r .p .off ≡ true) × (r .v ≡ 0) ⌝ }
 {
     let r = refuse(p);
     Indexed { v: 0, p: r }
