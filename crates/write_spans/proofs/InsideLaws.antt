@@ -12,17 +12,11 @@ use Rattle.atn.proofs.Inverse.{both}
 use Rattle.record_lists.specs.Items.{inside}
 use Rattle.pens.specs.Rest.{recordsFrom, rest}
 
-<<<<<<< HEAD
-module _ (sp : ℕ → Bool) (e : ℕ) (W : List ℕ) (m : ℕ) where
-=======
 module _ (sp : ℕ → Bool) (e : ℕ) (W : List ℕ) where
->>>>>>> 38fd85bf5f9ab06b4673a1f3d61045cb1b94ace4
   -- record i is no span, or lies inside
   abbrev pub lies : ℕ → Bool
   lies i = not (sp (getD W (i * 4) 0)) || leb (getD W (i * 4 + 2) 0 + getD W (i * 4 + 3) 0) e
 
-<<<<<<< HEAD
-=======
   pub span-lies : (i : ℕ) {t r : Bool} → t ≡ sp (getD W (i * 4) 0) → t ≡ true → r ≡ leb (getD W (i * 4 + 2) 0 + getD W (i * 4 + 3) 0) e → r ≡ lies i
   span-lies i x y z = rw (← x, y) z
 
@@ -30,48 +24,28 @@ module _ (sp : ℕ → Bool) (e : ℕ) (W : List ℕ) where
   other-lies i x y = rw (← x, y)
 
 module _ (sp : ℕ → Bool) (e : ℕ) (W : List ℕ) (m : ℕ) where
->>>>>>> 38fd85bf5f9ab06b4673a1f3d61045cb1b94ace4
   pub inside-end : (i : ℕ) → m ≤ i → inside sp e (rest W m i) ≡ true
   unfolding rest recordsFrom inside
   inside-end i h = let z : m - i ≡ 0 = omega arith in rw z
 
-<<<<<<< HEAD
-  pub inside-cons : (i : ℕ) → i < m → inside sp e (rest W m i) ≡ lies i && inside sp e (rest W m (i + 1))
-=======
   pub inside-cons : (i : ℕ) → i < m → inside sp e (rest W m i) ≡ lies sp e W i && inside sp e (rest W m (i + 1))
->>>>>>> 38fd85bf5f9ab06b4673a1f3d61045cb1b94ace4
   unfolding rest recordsFrom inside
   inside-cons i h = let z : m - i ≡ suc (m - suc i) = omega arith in rw (z, add-one)
 
   -- a record that lies inside is passed, and one that does not is the answer
-<<<<<<< HEAD
-  pub inside-next : (i : ℕ) {r : Bool} → i < m → r ≡ lies i → r ≡ true → inside sp e (rest W m i) ≡ inside sp e (rest W m (i + 1))
-  inside-next i h t l = inside-cons i h ∙ rw (← t, l)
-
-  pub inside-not : (i : ℕ) {r : Bool} → i < m → r ≡ lies i → r ≡ false → inside sp e (rest W m i) ≡ false
-=======
   pub inside-next : (i : ℕ) {r : Bool} → i < m → r ≡ lies sp e W i → r ≡ true → inside sp e (rest W m i) ≡ inside sp e (rest W m (i + 1))
   inside-next i h t l = inside-cons i h ∙ rw (← t, l)
 
   pub inside-not : (i : ℕ) {r : Bool} → i < m → r ≡ lies sp e W i → r ≡ false → inside sp e (rest W m i) ≡ false
->>>>>>> 38fd85bf5f9ab06b4673a1f3d61045cb1b94ace4
   inside-not i h t l = inside-cons i h ∙ rw (← t, l)
 
   -- where all lie inside, those from a record on do
   pub inside-from : inside sp e (rest W m 0) ≡ true → (i : ℕ) → i ≤ m → inside sp e (rest W m i) ≡ true
   inside-from a zero h = a
-<<<<<<< HEAD
-  inside-from a (suc i) h = rw add-one at (both (lies i) (inside sp e (rest W m (i + 1))) (sym (inside-cons i (omega arith)) ∙ inside-from a i (omega arith)) .1)
-=======
   inside-from a (suc i) h = rw add-one at (both (lies sp e W i) (inside sp e (rest W m (i + 1))) (sym (inside-cons i (omega arith)) ∙ inside-from a i (omega arith)) .1)
->>>>>>> 38fd85bf5f9ab06b4673a1f3d61045cb1b94ace4
 
   -- and each span does
   pub inside-at : inside sp e (rest W m 0) ≡ true → (i : ℕ) → i < m → sp (getD W (i * 4) 0) ≡ true → getD W (i * 4 + 2) 0 + getD W (i * 4 + 3) 0 ≤ e
   inside-at a i h s =
-<<<<<<< HEAD
-      let z = both (lies i) (inside sp e (rest W m (i + 1))) (sym (inside-cons i h) ∙ inside-from a i (omega arith)) .0 in
-=======
       let z = both (lies sp e W i) (inside sp e (rest W m (i + 1))) (sym (inside-cons i h) ∙ inside-from a i (omega arith)) .0 in
->>>>>>> 38fd85bf5f9ab06b4673a1f3d61045cb1b94ace4
       leb-true (getD W (i * 4 + 2) 0 + getD W (i * 4 + 3) 0) e (rw s at z)
