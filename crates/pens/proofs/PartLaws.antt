@@ -30,14 +30,14 @@ use Rattle.pens.specs.Writes.{limit, Took, Wrote, Writes, Inks, Part}
 
 module _ {A C : Type 0} (enc : A → List ℕ) (enc′ enc″ : C → List ℕ) (g : List Item → Got A) (h : A → List Item → Got C) (T : ℕ → List Item) (m : ℕ) (p q r : Pen) (X Y Z : List ℕ) where
   abbrev After : Type 0
-  After = (a : A) → g (T (p .next)) ≡ got a (T (q .next)) → q .off ≡ false → q .next ≤ m → Wrote enc′ T m q Y r Z (h a (T (q .next)))
+  After = p .off ≡ false → p .next ≤ m → (a : A) → g (T (p .next)) ≡ got a (T (q .next)) → q .off ≡ false → q .next ≤ m → Wrote enc′ T m q Y r Z (h a (T (q .next)))
 
   abbrev Joins : Type 0
   Joins = (a : A) (c : C) (U : List Item) → h a (T (q .next)) ≡ got c U → enc″ c ≡ enc a ++ enc′ c
 
   feed-writes : Writes enc g T m p X q Y → (q .off ≡ true → r .off ≡ true) → After → Joins → Writes enc″ (λ R. feed (g R) h) T m p X r Z
   unfolding feed
-  feed-writes x s y j = record { still = λ z. s (x .still z); goes = λ z l. go (g (T (p .next))) refl (x .goes z l) }
+  feed-writes x s y j = record { still = λ z. s (x .still z); goes = λ z l. go z l (g (T (p .next))) refl (x .goes z l) }
     where
       both : (a : A) (c : C) (U : List Item) → enc″ c ≡ enc a ++ enc′ c → (S : List Item) → Took enc T m p X q Y a S → Took enc′ T m q Y r Z c U → Took enc″ T m p X r Z c U
       both a c U e S t u =
@@ -56,11 +56,11 @@ module _ {A C : Type 0} (enc : A → List ℕ) (enc′ enc″ : C → List ℕ) 
       more a S t no e w = w
       more a S t (got c U) e w = both a c U (j a c U e) S t w
 
-      go : (k : Got A) → g (T (p .next)) ≡ k → Wrote enc T m p X q Y k → Wrote enc″ T m p X r Z (feed k h)
-      go no e w = s w
-      go (got a S) e w =
+      go : p .off ≡ false → p .next ≤ m → (k : Got A) → g (T (p .next)) ≡ k → Wrote enc T m p X q Y k → Wrote enc″ T m p X r Z (feed k h)
+      go z l no e w = s w
+      go z l (got a S) e w =
           let f : g (T (p .next)) ≡ got a (T (q .next)) = e ∙ ap (λ (z : List Item). got a z) (w .left) in
-          rw (w .left) (more a S w (h a (T (q .next))) refl (y a f (w .on) (w .fits)))
+          rw (w .left) (more a S w (h a (T (q .next))) refl (y z l a f (w .on) (w .fits)))
 
 ---------------------------------------------------------------- bits before a part
 
@@ -94,11 +94,11 @@ module _ (b : ℕ → ℕ) (W : List ℕ) (m : ℕ) (x : Ctx) (p q r : Pen) (X Y
   -- a record, then the part
   pub noted-part : (t y s : ℕ) (f : Fmt) → Writes (λ _. []) (λ R. peel (plain t (x .0) y s ∷ []) zero R) T m p X q X → Part f x b W m q X r Z → Part (noted t y s f) x b W m p X r Z
   unfolding parse encode
-  noted-part t y s f a c = feed-writes (λ _. []) (λ v. encode (typeOf f) v) (λ v. encode (typeOf f) v) (λ R. peel (plain t (x .0) y s ∷ []) zero R) (λ _ S. parse f x S) T m p q r X X Z a (c .still) (λ a e o l. c .goes o l) (λ a v U e. refl)
+  noted-part t y s f a c = feed-writes (λ _. []) (λ v. encode (typeOf f) v) (λ v. encode (typeOf f) v) (λ R. peel (plain t (x .0) y s ∷ []) zero R) (λ _ S. parse f x S) T m p q r X X Z a (c .still) (λ _ _ a e o l. c .goes o l) (λ a v U e. refl)
 
   pub placed-part : (t : ℕ) (f : Fmt) → Writes (λ _. []) (λ R. peel (plain t (x .0) (x .1) 0 ∷ []) zero R) T m p X q X → Part f x b W m q X r Z → Part (placed t f) x b W m p X r Z
   unfolding parse encode
-  placed-part t f a c = feed-writes (λ _. []) (λ v. encode (typeOf f) v) (λ v. encode (typeOf f) v) (λ R. peel (plain t (x .0) (x .1) 0 ∷ []) zero R) (λ _ S. parse f x S) T m p q r X X Z a (c .still) (λ a e o l. c .goes o l) (λ a v U e. refl)
+  placed-part t f a c = feed-writes (λ _. []) (λ v. encode (typeOf f) v) (λ v. encode (typeOf f) v) (λ R. peel (plain t (x .0) (x .1) 0 ∷ []) zero R) (λ _ S. parse f x S) T m p q r X X Z a (c .still) (λ _ _ a e o l. c .goes o l) (λ a v U e. refl)
 
   -- the extension bit, 0, then the root
   pub ext-part : (f g : Fmt) → Inks p X 1 0 q Y → Part f x b W m q Y r Z → Part (ext f g) x b W m p X r Z
@@ -109,7 +109,7 @@ module _ (b : ℕ → ℕ) (W : List ℕ) (m : ℕ) (x : Ctx) (p q r : Pen) (X Y
   pub choice-part : (t : ℕ) (fs : Alts) (g : List Item → Got ℕ) → ((R : List Item) → parse (choice t fs) x R ≡ feed (g R) (λ i S. parsePick fs i x S))
       → Writes (λ i. bitsOf (width (highest (alternativesOf fs))) i) g T m p X q Y
       → (q .off ≡ true → r .off ≡ true)
-      → ((i : ℕ) → g (T (p .next)) ≡ got i (T (q .next)) → q .off ≡ false → q .next ≤ m → Wrote (λ c. encodePick (alternativesOf fs) c) T m q Y r Z (parsePick fs i x (T (q .next))))
+      → (p .off ≡ false → p .next ≤ m → (i : ℕ) → g (T (p .next)) ≡ got i (T (q .next)) → q .off ≡ false → q .next ≤ m → Wrote (λ c. encodePick (alternativesOf fs) c) T m q Y r Z (parsePick fs i x (T (q .next))))
       → Part (choice t fs) x b W m p X r Z
   unfolding encode
   choice-part t fs g e a s c =

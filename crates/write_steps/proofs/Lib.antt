@@ -1,0 +1,3 @@
+pub mod PickLaws
+pub mod LeadLaws
+pub mod MeetLaws
