@@ -120,14 +120,14 @@ module _ (b : ℕ → ℕ) (W : List ℕ) (m : ℕ) (x : Ctx) (p q r : Pen) (X Y
 
 ---------------------------------------------------------------- an inner string, whose length is known from a first run that puts nothing
 
-short-length : (n : ℕ) → n < 128 → lengthBits n ≡ bitsOf 8 n
+pub short-length : (n : ℕ) → n < 128 → lengthBits n ≡ bitsOf 8 n
 unfolding lengthBits bitsOf
 short-length n h =
     let q : n / 128 ≡ 0 = omega arith in
     let r : n % 128 ≡ n = omega arith in
     rw (lt-ltb n 128 h, q, r)
 
-long-length : (n : ℕ) → 128 ≤ n → n < 16384 → lengthBits n ≡ bitsOf 16 (32768 + n)
+pub long-length : (n : ℕ) → 128 ≤ n → n < 16384 → lengthBits n ≡ bitsOf 16 (32768 + n)
 unfolding lengthBits bitsOf
 long-length n l h =
     let q : (32768 + n) / 32768 ≡ 1 = omega arith in
