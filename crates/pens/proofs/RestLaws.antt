@@ -14,7 +14,8 @@ use Rattle.record_lists.specs.Items.{Item, plain, bits, tagOf, look}
 use Rattle.record_lists.specs.Kinds.{spanTag}
 use Rattle.record_lists.specs.Parse.{opens, begins, same}
 use Rattle.record_lists.proofs.Forth.{differ}
-use Rattle.pens.specs.Rest.{recordsFrom, rest, items}
+use Rattle.record_lists.specs.Message.{recordsFrom}
+use Rattle.pens.specs.Rest.{rest, items}
 
 -- what a record shows
 abbrev pub itemOf : (ℕ → ℕ) → ℕ → ℕ → ℕ → ℕ → Item

@@ -1,15 +1,10 @@
 -- The records of lent words, four words each, and what they show.
-use mathlib.Core.List.{List, [], _∷_}
-use Prim.Native.Nat.{ℕ, zero, suc, _+_, _-_, _*_}
-use lib.ListN.{getD}
-use Rattle.atn.specs.Reading.{Rec, rec}
+use mathlib.Core.List.{List}
+use Prim.Native.Nat.{ℕ, _-_}
+use Rattle.atn.specs.Reading.{Rec}
 use Rattle.record_lists.specs.Items.{Item, look}
 use Rattle.record_lists.specs.Kinds.{spanTag}
-
--- k records from record i on
-unfoldable pub recordsFrom : List ℕ → ℕ → ℕ → List Rec
-recordsFrom W i zero = []
-recordsFrom W i (suc k) = rec (getD W (i * 4) 0) (getD W (i * 4 + 1) 0) (getD W (i * 4 + 2) 0) (getD W (i * 4 + 3) 0) ∷ recordsFrom W (suc i) k
+use Rattle.record_lists.specs.Message.{recordsFrom}
 
 -- the records from i to m
 unfoldable pub rest : List ℕ → ℕ → ℕ → List Rec

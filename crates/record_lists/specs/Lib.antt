@@ -5,3 +5,4 @@ pub mod Parse
 pub mod Plain
 pub mod Write
 pub mod Kinds
+pub mod Message

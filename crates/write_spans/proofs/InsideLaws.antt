@@ -10,7 +10,8 @@ use lib.Dec.{leb}
 use borrow.Author.Tests.{leb-true}
 use Rattle.atn.proofs.Inverse.{both}
 use Rattle.record_lists.specs.Items.{inside}
-use Rattle.pens.specs.Rest.{recordsFrom, rest}
+use Rattle.record_lists.specs.Message.{recordsFrom}
+use Rattle.pens.specs.Rest.{rest}
 
 module _ (sp : ℕ → Bool) (e : ℕ) (W : List ℕ) where
   -- record i is no span, or lies inside

@@ -1,0 +1,7 @@
+pub mod BitsBelow
+pub mod Bytes
+pub mod Accepted
+pub mod RoundTrip
+pub mod Entered
+pub mod Words
+pub mod Rewritten
