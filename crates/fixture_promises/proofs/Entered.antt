@@ -12,7 +12,7 @@ use Rattle.atn.specs.Entries.{Reply, accept, readFrame, accepted, Outcome, flat
 use Rattle.atn.proofs.Outcomes.{passes, settle-fits, decide-go}
 use Rattle.record_lists.specs.Kinds.{cmOf, kindOf}
 use Rattle.record_lists.specs.Message.{bytesOf}
-use Rattle.record_lists.proofs.Longest.{most}
+use Rattle.record_lists.specs.Most.{most}
 use Rattle.fixture_promises.proofs.RoundTrip.{ReadBack}
 
 -- an entry whose tests hold, over a frame that is read clean, with room for the records

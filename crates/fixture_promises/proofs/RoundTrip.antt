@@ -20,7 +20,8 @@ use Rattle.record_lists.specs.Message.{recordsOf, bytesNeeded, bytesOf, write-m
 use Rattle.record_lists.specs.Message as message
 use Rattle.record_lists.proofs.Written.{write-inv, written}
 use Rattle.record_lists.proofs.Messages.{clear-kind}
-use Rattle.record_lists.proofs.Longest.{most, longest}
+use Rattle.record_lists.specs.Most.{most}
+use Rattle.record_lists.proofs.Longest.{longest}
 use Rattle.fixture_promises.proofs.BitsBelow.{encode-below}
 use Rattle.fixture_promises.proofs.Bytes.{bytes-length, bytes-below, bytes-spell, bytes-room}
 use Rattle.fixture_promises.proofs.Accepted.{accepted}

@@ -23,7 +23,8 @@ use Rattle.record_lists.specs.Write.{encoded, write}
 use Rattle.record_lists.specs.Message.{recordsFrom, recordsOf, bytesNeeded, bytesOf, list-fits, bitsOfMessage, settled, write-message}
 use Rattle.record_lists.specs.Message as message
 use Rattle.record_lists.proofs.Forth.{differ, forth}
-use Rattle.record_lists.proofs.Longest.{most, longest}
+use Rattle.record_lists.specs.Most.{most}
+use Rattle.record_lists.proofs.Longest.{longest}
 use Rattle.message_nodes.specs.Table.{table, depth}
 use Rattle.message_nodes.specs.Roots.{rootOf}
 use Rattle.message_nodes.proofs.Meaning.{meaning}

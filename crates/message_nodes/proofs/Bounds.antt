@@ -17,7 +17,7 @@ use Rattle.atn.specs.Messages.{noReader, arguments, argumentOf, elements, const
 use Rattle.atn.specs.Entries.{pdus}
 use Rattle.atn.proofs.Inverse.{both}
 use Rattle.record_lists.specs.Kinds.{cmOf, kindOf}
-use Rattle.record_lists.proofs.Longest.{most, mostAlts}
+use Rattle.record_lists.specs.Most.{most, mostAlts}
 use Rattle.message_nodes.specs.Table.{table}
 use Rattle.message_nodes.proofs.Meaning.{some-is, nothing}
 

@@ -14,7 +14,7 @@ use Rattle.atn.specs.Reading.{flags}
 use Rattle.record_lists.specs.Clear.{solid, firsts}
 use Rattle.record_lists.specs.Kinds.{spanTag}
 use Rattle.record_lists.specs.Parse.{sameNumbers}
-use Rattle.record_lists.proofs.Longest.{most}
+use Rattle.record_lists.specs.Most.{most}
 use Rattle.node_tables.specs.Nodes.{nodeWord, memberOf, membersFrom, alternativesFrom, formatOf, formatAt}
 use Rattle.node_tables.specs.Sure.{sureMember, sureMembers, sureEach, sureText, sureUnit, sureSize, sureOf, sureAt}
 use Rattle.message_nodes.specs.Table.{table, depth, downMessageRoot, downCarriedRoot, upMessageRoot, upCarriedRoot, downlinkRoot, uplinkRoot, cmAircraftRoot, cmGroundRoot, acseRoot}

@@ -9,7 +9,7 @@ use Rattle.atn.specs.Reading.{flags}
 use Rattle.record_lists.specs.Clear.{firsts}
 use Rattle.record_lists.specs.Kinds.{spanTag}
 use Rattle.record_lists.specs.Parse.{sameNumbers}
-use Rattle.record_lists.proofs.Longest.{most}
+use Rattle.record_lists.specs.Most.{most}
 use Rattle.node_tables.specs.Nodes.{nodeWord, membersFrom, formatAt}
 
 unfoldable pub sureMember : (ℕ → Fmt) → (ℕ → Bool) → ℕ → ℕ → ℕ → ℕ → ℕ → Bool

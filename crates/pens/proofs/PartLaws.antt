@@ -21,7 +21,8 @@ use Rattle.bit_writer.proofs.PutLaws.{setBits-join}
 use Rattle.record_lists.specs.Items.{Item, plain}
 use Rattle.record_lists.specs.Parse.{Got, no, got, peel, feed, turn, keep, parse, parsePick}
 use Rattle.record_lists.proofs.Forth.{differ, forth, forthPick}
-use Rattle.record_lists.proofs.Longest.{most, longest}
+use Rattle.record_lists.specs.Most.{most}
+use Rattle.record_lists.proofs.Longest.{longest}
 use Rattle.pens.specs.declared.Pen.{Pen}
 use Rattle.pens.specs.Rest.{items}
 use Rattle.pens.specs.Writes.{limit, Took, Wrote, Writes, Inks, Part}

@@ -6,3 +6,4 @@ pub mod Plain
 pub mod Write
 pub mod Kinds
 pub mod Message
+pub mod Most

@@ -15,7 +15,7 @@ use Rattle.atn.proofs.Inverse.{both}
 use Rattle.record_lists.specs.Clear.{firsts}
 use Rattle.record_lists.specs.Kinds.{spanTag}
 use Rattle.record_lists.specs.Parse.{sameNumbers, parse}
-use Rattle.record_lists.proofs.Longest.{most}
+use Rattle.record_lists.specs.Most.{most}
 use Rattle.node_tables.specs.declared.Node.{Node}
 use Rattle.node_tables.specs.Nodes.{nodeWord, memberOf, membersFrom, formatOf, formatAt}
 use Rattle.node_tables.specs.Row.{IsNode}

@@ -8,7 +8,7 @@ ghost use Rattle.atn.specs.Format.{seq, many, inner};
 ghost use Rattle.atn.specs.Reading.{flags};
 ghost use Rattle.record_lists.specs.Clear.{firsts};
 ghost use Rattle.record_lists.specs.Parse.{sameNumbers};
-ghost use Rattle.record_lists.proofs.Longest.{most};
+ghost use Rattle.record_lists.specs.Most.{most};
 ghost use Rattle.node_tables.specs.Nodes.{formatAt, membersFrom};
 ghost use Rattle.node_tables.specs.Sure.{sureAt, sureMembers};
 ghost use Rattle.pens.specs.Writes.{limit, Part, Members, Repeats};

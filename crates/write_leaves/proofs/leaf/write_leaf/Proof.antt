@@ -15,7 +15,9 @@ use Rattle.write_texts.proofs.write_text.Reads as write-text-reads
 
 -- src/leaf.rt:38:9
 write-number-requires : tie.Need-write-number-requires
-write-number-requires c κs = (((c .before .before .before .before .before .pre) .0 .records), ((c .before .before .before .before .before .pre) .0 .few), (sure-number (c .before .before .before .before .before .args .a) (c .before .before .before .before .before .args .b) (c .before .before .before .before .before .args .c) (c .before .before .before .before .before .args .d) (c .before .before .before .before .before .args .e) (c .before .if1 .taken) ((c .before .before .before .before .before .pre) .2)))
+write-number-requires c κs =
+    let e = c .before .before .before .before .before in
+    (((e .pre) .0 .records), ((e .pre) .0 .few), (sure-number (e .args .a) (e .args .b) (e .args .c) (e .args .d) (e .args .e) (c .before .if1 .taken) ((e .pre) .2)))
 
 -- src/leaf.rt:38:9
 same-length : tie.Need-same-length
@@ -23,11 +25,15 @@ same-length c = search needs
 
 -- src/leaf.rt:38:9
 returns : tie.Need-returns
-returns c = λ F N D U y. part-as _ _ _ _ _ _ _ _ _ _ (number-leaf F N D U (c .before .before .before .before .before .before .before .before .args .a) (c .before .before .before .before .before .before .before .before .args .b) (c .before .before .before .before .before .before .before .before .args .c) (c .before .before .before .before .before .before .before .before .args .d) (c .before .before .before .before .before .before .before .before .args .e) (c .before .before .before .before .if1 .taken)) ((c .before .before .write-number .ensures) (bitOf (c .before .before .before .before .before .before .before .before .args .src .now)) y)
+returns c =
+    let e = c .before .before .before .before .before .before .before .before in
+    λ F N D U y. part-as _ _ _ _ _ _ _ _ _ _ (number-leaf F N D U (e .args .a) (e .args .b) (e .args .c) (e .args .d) (e .args .e) (c .before .before .before .before .if1 .taken)) ((c .before .before .write-number .ensures) (bitOf (e .args .src .now)) y)
 
 -- src/leaf.rt:41:9
 write-name-requires : tie.Need-write-name-requires
-write-name-requires c κs = (((c .before .before .before .before .before .before .pre) .0 .records), ((c .before .before .before .before .before .before .pre) .0 .few), (sure-name (c .before .before .before .before .before .before .args .a) (c .before .before .before .before .before .before .args .b) (c .before .before .before .before .before .before .args .c) (c .before .before .before .before .before .before .args .d) (c .before .before .before .before .before .before .args .e) (c .before .if2 .taken) ((c .before .before .before .before .before .before .pre) .2)))
+write-name-requires c κs =
+    let e = c .before .before .before .before .before .before in
+    (((e .pre) .0 .records), ((e .pre) .0 .few), (sure-name (e .args .a) (e .args .b) (e .args .c) (e .args .d) (e .args .e) (c .before .if2 .taken) ((e .pre) .2)))
 
 -- src/leaf.rt:41:9
 same-length-2 : tie.Need-same-length-2
@@ -35,11 +41,15 @@ same-length-2 c = search needs
 
 -- src/leaf.rt:41:9
 returns-2 : tie.Need-returns-2
-returns-2 c = λ F N D U y. part-as _ _ _ _ _ _ _ _ _ _ (name-leaf F N D U (c .before .before .before .before .before .before .before .before .before .args .a) (c .before .before .before .before .before .before .before .before .before .args .b) (c .before .before .before .before .before .before .before .before .before .args .c) (c .before .before .before .before .before .before .before .before .before .args .d) (c .before .before .before .before .before .before .before .before .before .args .e) (c .before .before .before .before .if2 .taken)) ((c .before .before .write-name .ensures) (bitOf (c .before .before .before .before .before .before .before .before .before .args .src .now)) y)
+returns-2 c =
+    let e = c .before .before .before .before .before .before .before .before .before in
+    λ F N D U y. part-as _ _ _ _ _ _ _ _ _ _ (name-leaf F N D U (e .args .a) (e .args .b) (e .args .c) (e .args .d) (e .args .e) (c .before .before .before .before .if2 .taken)) ((c .before .before .write-name .ensures) (bitOf (e .args .src .now)) y)
 
 -- src/leaf.rt:44:9
 write-reason-requires : tie.Need-write-reason-requires
-write-reason-requires c κs = (((c .before .before .before .before .before .before .before .pre) .0 .records), ((c .before .before .before .before .before .before .before .pre) .0 .few), (sure-reason (c .before .before .before .before .before .before .before .args .a) (c .before .before .before .before .before .before .before .args .b) (c .before .before .before .before .before .before .before .args .c) (c .before .before .before .before .before .before .before .args .d) (c .before .before .before .before .before .before .before .args .e) (c .before .if3 .taken) ((c .before .before .before .before .before .before .before .pre) .2)))
+write-reason-requires c κs =
+    let e = c .before .before .before .before .before .before .before in
+    (((e .pre) .0 .records), ((e .pre) .0 .few), (sure-reason (e .args .a) (e .args .b) (e .args .c) (e .args .d) (e .args .e) (c .before .if3 .taken) ((e .pre) .2)))
 
 -- src/leaf.rt:44:9
 same-length-3 : tie.Need-same-length-3
@@ -47,11 +57,15 @@ same-length-3 c = search needs
 
 -- src/leaf.rt:44:9
 returns-3 : tie.Need-returns-3
-returns-3 c = λ F N D U y. part-as _ _ _ _ _ _ _ _ _ _ (reason-leaf F N D U (c .before .before .before .before .before .before .before .before .before .before .args .a) (c .before .before .before .before .before .before .before .before .before .before .args .b) (c .before .before .before .before .before .before .before .before .before .before .args .c) (c .before .before .before .before .before .before .before .before .before .before .args .d) (c .before .before .before .before .before .before .before .before .before .before .args .e) (c .before .before .before .before .if3 .taken)) ((c .before .before .write-reason .ensures) (bitOf (c .before .before .before .before .before .before .before .before .before .before .args .src .now)) y)
+returns-3 c =
+    let e = c .before .before .before .before .before .before .before .before .before .before in
+    λ F N D U y. part-as _ _ _ _ _ _ _ _ _ _ (reason-leaf F N D U (e .args .a) (e .args .b) (e .args .c) (e .args .d) (e .args .e) (c .before .before .before .before .if3 .taken)) ((c .before .before .write-reason .ensures) (bitOf (e .args .src .now)) y)
 
 -- src/leaf.rt:47:9
 write-text-requires : tie.Need-write-text-requires
-write-text-requires c κs = let s = (sure-text (c .before .before .before .before .before .before .before .before .args .a) (c .before .before .before .before .before .before .before .before .args .b) (c .before .before .before .before .before .before .before .before .args .c) (c .before .before .before .before .before .before .before .before .args .d) (c .before .before .before .before .before .before .before .before .args .e) (c .before .if4 .taken) ((c .before .before .before .before .before .before .before .before .pre) .2)) in (((c .before .before .before .before .before .before .before .before .pre) .0 .records), ((c .before .before .before .before .before .before .before .before .pre) .0 .few), s .0, s .1, s .2, s .3, s .4)
+write-text-requires c κs =
+    let e = c .before .before .before .before .before .before .before .before in
+    let s = (sure-text (e .args .a) (e .args .b) (e .args .c) (e .args .d) (e .args .e) (c .before .if4 .taken) ((e .pre) .2)) in (((e .pre) .0 .records), ((e .pre) .0 .few), s .0, s .1, s .2, s .3, s .4)
 
 -- src/leaf.rt:47:9
 same-length-4 : tie.Need-same-length-4
@@ -59,11 +73,15 @@ same-length-4 c = search needs
 
 -- src/leaf.rt:47:9
 returns-4 : tie.Need-returns-4
-returns-4 c = λ F N D U y. part-as _ _ _ _ _ _ _ _ _ _ (text-leaf F N D U (c .before .before .before .before .before .before .before .before .before .before .before .args .a) (c .before .before .before .before .before .before .before .before .before .before .before .args .b) (c .before .before .before .before .before .before .before .before .before .before .before .args .c) (c .before .before .before .before .before .before .before .before .before .before .before .args .d) (c .before .before .before .before .before .before .before .before .before .before .before .args .e) (c .before .before .before .before .if4 .taken)) ((c .before .before .write-text .ensures) (bitOf (c .before .before .before .before .before .before .before .before .before .before .before .args .src .now)) y)
+returns-4 c =
+    let e = c .before .before .before .before .before .before .before .before .before .before .before in
+    λ F N D U y. part-as _ _ _ _ _ _ _ _ _ _ (text-leaf F N D U (e .args .a) (e .args .b) (e .args .c) (e .args .d) (e .args .e) (c .before .before .before .before .if4 .taken)) ((c .before .before .write-text .ensures) (bitOf (e .args .src .now)) y)
 
 -- src/leaf.rt:50:9
 write-span-requires : tie.Need-write-span-requires
-write-span-requires c κs = let s = (sure-span (c .before .before .before .before .before .before .before .before .before .args .a) (c .before .before .before .before .before .before .before .before .before .args .b) (c .before .before .before .before .before .before .before .before .before .args .c) (c .before .before .before .before .before .before .before .before .before .args .d) (c .before .before .before .before .before .before .before .before .before .args .e) (c .before .if5 .taken) ((c .before .before .before .before .before .before .before .before .before .pre) .2)) in (((c .before .before .before .before .before .before .before .before .before .pre) .0 .records), ((c .before .before .before .before .before .before .before .before .before .pre) .0 .few), ((c .before .before .before .before .before .before .before .before .before .pre) .0 .bytes), ((c .before .before .before .before .before .before .before .before .before .pre) .0 .spans), s .0, s .1, s .2, s .3, s .4, s .5)
+write-span-requires c κs =
+    let e = c .before .before .before .before .before .before .before .before .before in
+    let s = (sure-span (e .args .a) (e .args .b) (e .args .c) (e .args .d) (e .args .e) (c .before .if5 .taken) ((e .pre) .2)) in (((e .pre) .0 .records), ((e .pre) .0 .few), ((e .pre) .0 .bytes), ((e .pre) .0 .spans), s .0, s .1, s .2, s .3, s .4, s .5)
 
 -- src/leaf.rt:50:9
 same-length-5 : tie.Need-same-length-5
@@ -71,11 +89,15 @@ same-length-5 c = search needs
 
 -- src/leaf.rt:50:9
 returns-5 : tie.Need-returns-5
-returns-5 c = λ F N D U y. part-as _ _ _ _ _ _ _ _ _ _ (span-leaf F N D U (c .before .before .before .before .before .before .before .before .before .before .before .before .args .a) (c .before .before .before .before .before .before .before .before .before .before .before .before .args .b) (c .before .before .before .before .before .before .before .before .before .before .before .before .args .c) (c .before .before .before .before .before .before .before .before .before .before .before .before .args .d) (c .before .before .before .before .before .before .before .before .before .before .before .before .args .e) (c .before .before .before .before .if5 .taken)) ((c .before .before .write-span .ensures) y)
+returns-5 c =
+    let e = c .before .before .before .before .before .before .before .before .before .before .before .before in
+    λ F N D U y. part-as _ _ _ _ _ _ _ _ _ _ (span-leaf F N D U (e .args .a) (e .args .b) (e .args .c) (e .args .d) (e .args .e) (c .before .before .before .before .if5 .taken)) ((c .before .before .write-span .ensures) y)
 
 -- src/leaf.rt:53:9
 write-any-span-requires : tie.Need-write-any-span-requires
-write-any-span-requires c κs = let s = (sure-any (c .before .before .before .before .before .before .before .before .before .before .args .a) (c .before .before .before .before .before .before .before .before .before .before .args .b) (c .before .before .before .before .before .before .before .before .before .before .args .c) (c .before .before .before .before .before .before .before .before .before .before .args .d) (c .before .before .before .before .before .before .before .before .before .before .args .e) (c .before .if6 .taken) ((c .before .before .before .before .before .before .before .before .before .before .pre) .2)) in (((c .before .before .before .before .before .before .before .before .before .before .pre) .0 .records), ((c .before .before .before .before .before .before .before .before .before .before .pre) .0 .few), ((c .before .before .before .before .before .before .before .before .before .before .pre) .0 .bytes), ((c .before .before .before .before .before .before .before .before .before .before .pre) .0 .spans), s .0, s .1, s .2)
+write-any-span-requires c κs =
+    let e = c .before .before .before .before .before .before .before .before .before .before in
+    let s = (sure-any (e .args .a) (e .args .b) (e .args .c) (e .args .d) (e .args .e) (c .before .if6 .taken) ((e .pre) .2)) in (((e .pre) .0 .records), ((e .pre) .0 .few), ((e .pre) .0 .bytes), ((e .pre) .0 .spans), s .0, s .1, s .2)
 
 -- src/leaf.rt:53:9
 same-length-6 : tie.Need-same-length-6
@@ -83,11 +105,15 @@ same-length-6 c = search needs
 
 -- src/leaf.rt:53:9
 returns-6 : tie.Need-returns-6
-returns-6 c = λ F N D U y. part-as _ _ _ _ _ _ _ _ _ _ (any-leaf F N D U (c .before .before .before .before .before .before .before .before .before .before .before .before .before .args .a) (c .before .before .before .before .before .before .before .before .before .before .before .before .before .args .b) (c .before .before .before .before .before .before .before .before .before .before .before .before .before .args .c) (c .before .before .before .before .before .before .before .before .before .before .before .before .before .args .d) (c .before .before .before .before .before .before .before .before .before .before .before .before .before .args .e) (c .before .before .before .before .if6 .taken)) ((c .before .before .write-any-span .ensures) y)
+returns-6 c =
+    let e = c .before .before .before .before .before .before .before .before .before .before .before .before .before in
+    λ F N D U y. part-as _ _ _ _ _ _ _ _ _ _ (any-leaf F N D U (e .args .a) (e .args .b) (e .args .c) (e .args .d) (e .args .e) (c .before .before .before .before .if6 .taken)) ((c .before .before .write-any-span .ensures) y)
 
 -- src/leaf.rt:56:9
 returns-7 : tie.Need-returns-7
-returns-7 c = λ F N D U y. part-as _ _ _ _ _ _ _ _ _ _ (null-leaf F N D U (c .before .before .before .before .before .before .before .before .before .before .args .a) (c .before .before .before .before .before .before .before .before .before .before .args .b) (c .before .before .before .before .before .before .before .before .before .before .args .c) (c .before .before .before .before .before .before .before .before .before .before .args .d) (c .before .before .before .before .before .before .before .before .before .before .args .e) (c .if7 .taken)) (null-part _ _ _ _ _ _ (c .before .before .before .before .before .before .before .before .before .before .args .p) (c .before .before .before .before .before .before .before .before .before .before .args .out .now))
+returns-7 c =
+    let e = c .before .before .before .before .before .before .before .before .before .before in
+    λ F N D U y. part-as _ _ _ _ _ _ _ _ _ _ (null-leaf F N D U (e .args .a) (e .args .b) (e .args .c) (e .args .d) (e .args .e) (c .if7 .taken)) (null-part _ _ _ _ _ _ (e .args .p) (e .args .out .now))
 
 -- src/leaf.rt:58:5
 refuse-requires : tie.Need-refuse-requires
@@ -95,7 +121,9 @@ refuse-requires c κs = search needs
 
 -- src/leaf.rt:20:1
 returns-8 : tie.Need-returns-8
-returns-8 c = λ F N D U y. part-as _ _ _ _ _ _ _ _ _ _ (no-leaf F N D U (c .before .before .before .before .before .before .before .before .before .before .before .args .a) (c .before .before .before .before .before .before .before .before .before .before .before .args .b) (c .before .before .before .before .before .before .before .before .before .before .before .args .c) (c .before .before .before .before .before .before .before .before .before .before .before .args .d) (c .before .before .before .before .before .before .before .before .before .before .before .args .e) (below-eight ((c .before .before .before .before .before .before .before .before .before .before .before .pre) .1) (c .before .before .before .before .before .before .before .if1 .left) (c .before .before .before .before .before .before .if2 .left) (c .before .before .before .before .before .if3 .left) (c .before .before .before .before .if4 .left) (c .before .before .before .if5 .left) (c .before .before .if6 .left) (c .before .if7 .left))) (no-part _ _ _ _ _ _ _ _ (c .refuse .ensures))
+returns-8 c =
+    let e = c .before .before .before .before .before .before .before .before .before .before .before in
+    λ F N D U y. part-as _ _ _ _ _ _ _ _ _ _ (no-leaf F N D U (e .args .a) (e .args .b) (e .args .c) (e .args .d) (e .args .e) (below-eight ((e .pre) .1) (c .before .before .before .before .before .before .before .if1 .left) (c .before .before .before .before .before .before .if2 .left) (c .before .before .before .before .before .if3 .left) (c .before .before .before .before .if4 .left) (c .before .before .before .if5 .left) (c .before .before .if6 .left) (c .before .if7 .left))) (no-part _ _ _ _ _ _ _ _ (c .refuse .ensures))
 
 pub write-leaf-spec : {M : Type 1} → statement M
 write-leaf-spec =

@@ -90,11 +90,7 @@ write-members-at t =
 
 abbrev write-members-below : ℕ → In 6 write-members-kinds.ps
 write-members-below t =
-    and
-    6
-    write-members-kinds.ps
-    (falls 6 write-members-kinds.ps _<_ μ-write-members t)
-    write-members.Pre
+    and 6 write-members-kinds.ps (falls 6 write-members-kinds.ps _<_ μ-write-members t) write-members.Pre
 
 abbrev write-node-at : ℕ → In 6 write-node-kinds.ps
 write-node-at t =
@@ -110,1296 +106,262 @@ write-repeat-at t =
 
 abbrev write-repeat-below : ℕ → In 6 write-repeat-kinds.ps
 write-repeat-below t =
-    and
-    6
-    write-repeat-kinds.ps
-    (falls 6 write-repeat-kinds.ps _<_ μ-write-repeat t)
-    write-repeat.Pre
+    and 6 write-repeat-kinds.ps (falls 6 write-repeat-kinds.ps _<_ μ-write-repeat t) write-repeat.Pre
 
 abbrev write-sequence-at : ℕ → In 6 write-sequence-kinds.ps
 write-sequence-at t =
-    and
-    6
-    write-sequence-kinds.ps
-    (is 6 write-sequence-kinds.ps μ-write-sequence t)
-    write-sequence.Pre
+    and 6 write-sequence-kinds.ps (is 6 write-sequence-kinds.ps μ-write-sequence t) write-sequence.Pre
 
 abbrev write-sequence-below : ℕ → In 6 write-sequence-kinds.ps
 write-sequence-below t =
-    and
-    6
-    write-sequence-kinds.ps
-    (falls 6 write-sequence-kinds.ps _<_ μ-write-sequence t)
-    write-sequence.Pre
+    and 6 write-sequence-kinds.ps (falls 6 write-sequence-kinds.ps _<_ μ-write-sequence t) write-sequence.Pre
 
--- src/node.rt:351:56
-write-inner-slice-aggregate-write-node : (t : ℕ) → write-inner-lts.Need-slice-aggregate-write-node (
-  write-node-below t,
-  write-node.Post,
-  refuse-reads.Asked,
-  refuse-reads.Learnt,
-  ink-reads.Asked,
-  ink-reads.Learnt,
-) (write-inner-at t) write-inner.Post
-write-inner-slice-aggregate-write-node t c = search needs
-
--- src/node.rt:351:9
-write-inner-write-node-requires : (t : ℕ) → write-inner-lts.Need-write-node-requires (
-  write-node-below t,
-  write-node.Post,
-  refuse-reads.Asked,
-  refuse-reads.Learnt,
-  ink-reads.Asked,
-  ink-reads.Learnt,
-) (write-inner-at t) write-inner.Post
+write-inner-write-node-requires : (t : ℕ) → write-inner-lts.Need-write-node-requires (write-node-below t, write-node.Post, refuse-reads.Asked, refuse-reads.Learnt, ink-reads.Asked, ink-reads.Learnt) (write-inner-at t) write-inner.Post
 write-inner-write-node-requires t c κs = (omega (arith, (c .before .before .before .before .before .before .before .pre .0)), (((c .before .before .before .before .before .before .before .pre .1) .0), (c .before .before .before .before .before .before .before .pre .1) .1, (c .before .before .before .before .before .before .before .pre .1) .2))
 
--- src/node.rt:353:9
-write-inner-refuse-requires : (t : ℕ) → write-inner-lts.Need-refuse-requires (
-  write-node-below t,
-  write-node.Post,
-  refuse-reads.Asked,
-  refuse-reads.Learnt,
-  ink-reads.Asked,
-  ink-reads.Learnt,
-) (write-inner-at t) write-inner.Post
-write-inner-refuse-requires t c κs = search needs
+write-inner-returns : (t : ℕ) → write-inner-lts.Need-returns (write-node-below t, write-node.Post, refuse-reads.Asked, refuse-reads.Learnt, ink-reads.Asked, ink-reads.Learnt) (write-inner-at t) write-inner.Post
+write-inner-returns t c =
+    let e = c .before .before .before .before .before .before .before .before .before .before .before in
+    inner-refused (bitOf (e .args .src .now)) _ _ _ (formatAt (e .args .g) (e .args .nodes .now) (e .args .down .now) (e .args .up .now) (e .args .k)) (e .args .p) _ (c .before .before .before .write-node .result) _ _ refl refl refl (c .before .before .before .write-node .ensures) ((e .pre .1) .3) _ _ _ (λ _. (c .before .if1 .taken)) (c .refuse .ensures)
 
--- src/node.rt:353:9
-write-inner-returns : (t : ℕ) → write-inner-lts.Need-returns (
-  write-node-below t,
-  write-node.Post,
-  refuse-reads.Asked,
-  refuse-reads.Learnt,
-  ink-reads.Asked,
-  ink-reads.Learnt,
-) (write-inner-at t) write-inner.Post
-write-inner-returns t c = inner-refused (bitOf (c .before .before .before .before .before .before .before .before .before .before .before .args .src .now)) _ _ _ (formatAt (c .before .before .before .before .before .before .before .before .before .before .before .args .g) (c .before .before .before .before .before .before .before .before .before .before .before .args .nodes .now) (c .before .before .before .before .before .before .before .before .before .before .before .args .down .now) (c .before .before .before .before .before .before .before .before .before .before .before .args .up .now) (c .before .before .before .before .before .before .before .before .before .before .before .args .k)) (c .before .before .before .before .before .before .before .before .before .before .before .args .p) _ (c .before .before .before .write-node .result) _ _ refl refl refl (c .before .before .before .write-node .ensures) ((c .before .before .before .before .before .before .before .before .before .before .before .pre .1) .3) _ _ _ (λ _. (c .before .if1 .taken)) (c .refuse .ensures)
+write-inner-returns-2 : (t : ℕ) → write-inner-lts.Need-returns-2 (write-node-below t, write-node.Post, refuse-reads.Asked, refuse-reads.Learnt, ink-reads.Asked, ink-reads.Learnt) (write-inner-at t) write-inner.Post
+write-inner-returns-2 t c =
+    let e = c .before .before .before .before .before .before .before .before .before .before .before .before in
+    inner-long (bitOf (e .args .src .now)) _ _ _ (formatAt (e .args .g) (e .args .nodes .now) (e .args .down .now) (e .args .up .now) (e .args .k)) (e .args .p) _ (c .before .before .before .before .write-node .result) _ _ refl refl refl (c .before .before .before .before .write-node .ensures) ((e .pre .1) .3) _ _ _ (c .before .if2 .taken) (c .refuse2 .ensures)
 
--- src/node.rt:357:9
-write-inner-refuse-requires-2 : (t : ℕ) → write-inner-lts.Need-refuse-requires-2 (
-  write-node-below t,
-  write-node.Post,
-  refuse-reads.Asked,
-  refuse-reads.Learnt,
-  ink-reads.Asked,
-  ink-reads.Learnt,
-) (write-inner-at t) write-inner.Post
-write-inner-refuse-requires-2 t c κs = search needs
-
--- src/node.rt:357:9
-write-inner-returns-2 : (t : ℕ) → write-inner-lts.Need-returns-2 (
-  write-node-below t,
-  write-node.Post,
-  refuse-reads.Asked,
-  refuse-reads.Learnt,
-  ink-reads.Asked,
-  ink-reads.Learnt,
-) (write-inner-at t) write-inner.Post
-write-inner-returns-2 t c = inner-long (bitOf (c .before .before .before .before .before .before .before .before .before .before .before .before .args .src .now)) _ _ _ (formatAt (c .before .before .before .before .before .before .before .before .before .before .before .before .args .g) (c .before .before .before .before .before .before .before .before .before .before .before .before .args .nodes .now) (c .before .before .before .before .before .before .before .before .before .before .before .before .args .down .now) (c .before .before .before .before .before .before .before .before .before .before .before .before .args .up .now) (c .before .before .before .before .before .before .before .before .before .before .before .before .args .k)) (c .before .before .before .before .before .before .before .before .before .before .before .before .args .p) _ (c .before .before .before .before .write-node .result) _ _ refl refl refl (c .before .before .before .before .write-node .ensures) ((c .before .before .before .before .before .before .before .before .before .before .before .before .pre .1) .3) _ _ _ (c .before .if2 .taken) (c .refuse2 .ensures)
-
--- src/node.rt:360:13
-write-inner-ink-requires : (t : ℕ) → write-inner-lts.Need-ink-requires (
-  write-node-below t,
-  write-node.Post,
-  refuse-reads.Asked,
-  refuse-reads.Learnt,
-  ink-reads.Asked,
-  ink-reads.Learnt,
-) (write-inner-at t) write-inner.Post
+write-inner-ink-requires : (t : ℕ) → write-inner-lts.Need-ink-requires (write-node-below t, write-node.Post, refuse-reads.Asked, refuse-reads.Learnt, ink-reads.Asked, ink-reads.Learnt) (write-inner-at t) write-inner.Post
 write-inner-ink-requires t c κs = (omega arith, omega (arith, (c .before .if3 .taken)))
 
--- src/node.rt:361:9
-write-inner-write-node-requires-2 : (t : ℕ) → write-inner-lts.Need-write-node-requires-2 (
-  write-node-below t,
-  write-node.Post,
-  refuse-reads.Asked,
-  refuse-reads.Learnt,
-  ink-reads.Asked,
-  ink-reads.Learnt,
-) (write-inner-at t) write-inner.Post
+write-inner-write-node-requires-2 : (t : ℕ) → write-inner-lts.Need-write-node-requires-2 (write-node-below t, write-node.Post, refuse-reads.Asked, refuse-reads.Learnt, ink-reads.Asked, ink-reads.Learnt) (write-inner-at t) write-inner.Post
 write-inner-write-node-requires-2 t c κs = (omega (arith, (c .before .before .before .before .before .before .before .before .before .before .before .before .before .before .before .before .before .pre .0)), (((c .before .before .before .before .before .before .before .before .before .before .before .before .before .before .before .before .before .pre .1) .0), (c .before .before .before .before .before .before .before .before .before .before .before .before .before .before .before .before .before .pre .1) .1, (c .before .before .before .before .before .before .before .before .before .before .before .before .before .before .before .before .before .pre .1) .2))
 
--- src/node.rt:361:9
-write-inner-same-length : (t : ℕ) → write-inner-lts.Need-same-length (
-  write-node-below t,
-  write-node.Post,
-  refuse-reads.Asked,
-  refuse-reads.Learnt,
-  ink-reads.Asked,
-  ink-reads.Learnt,
-) (write-inner-at t) write-inner.Post
-write-inner-same-length t c = search needs
+write-inner-returns-3 : (t : ℕ) → write-inner-lts.Need-returns-3 (write-node-below t, write-node.Post, refuse-reads.Asked, refuse-reads.Learnt, ink-reads.Asked, ink-reads.Learnt) (write-inner-at t) write-inner.Post
+write-inner-returns-3 t c =
+    let e = c .before .before .before .before .before .before .before .before .before .before .before .before .before .before .before .before .before .before .before .before in
+    inner-goes (bitOf (e .args .src .now)) _ _ _ (formatAt (e .args .g) (e .args .nodes .now) (e .args .down .now) (e .args .up .now) (e .args .k)) (e .args .p) _ (c .before .before .before .before .before .before .before .before .before .before .before .before .write-node .result) _ _ refl refl refl (c .before .before .before .before .before .before .before .before .before .before .before .before .write-node .ensures) ((e .pre .1) .3) 8 _ _ _ _ _ _ (c .before .before .before .before .before .before .before .before .before .if2 .left) (short-length _ (c .before .before .before .before .before .before .before .before .if3 .taken)) (c .before .before .before .before .before .before .ink .ensures) (c .before .before .write-node2 .ensures)
 
--- src/node.rt:361:9
-write-inner-returns-3 : (t : ℕ) → write-inner-lts.Need-returns-3 (
-  write-node-below t,
-  write-node.Post,
-  refuse-reads.Asked,
-  refuse-reads.Learnt,
-  ink-reads.Asked,
-  ink-reads.Learnt,
-) (write-inner-at t) write-inner.Post
-write-inner-returns-3 t c = inner-goes (bitOf (c .before .before .before .before .before .before .before .before .before .before .before .before .before .before .before .before .before .before .before .before .args .src .now)) _ _ _ (formatAt (c .before .before .before .before .before .before .before .before .before .before .before .before .before .before .before .before .before .before .before .before .args .g) (c .before .before .before .before .before .before .before .before .before .before .before .before .before .before .before .before .before .before .before .before .args .nodes .now) (c .before .before .before .before .before .before .before .before .before .before .before .before .before .before .before .before .before .before .before .before .args .down .now) (c .before .before .before .before .before .before .before .before .before .before .before .before .before .before .before .before .before .before .before .before .args .up .now) (c .before .before .before .before .before .before .before .before .before .before .before .before .before .before .before .before .before .before .before .before .args .k)) (c .before .before .before .before .before .before .before .before .before .before .before .before .before .before .before .before .before .before .before .before .args .p) _ (c .before .before .before .before .before .before .before .before .before .before .before .before .write-node .result) _ _ refl refl refl (c .before .before .before .before .before .before .before .before .before .before .before .before .write-node .ensures) ((c .before .before .before .before .before .before .before .before .before .before .before .before .before .before .before .before .before .before .before .before .pre .1) .3) 8 _ _ _ _ _ _ (c .before .before .before .before .before .before .before .before .before .if2 .left) (short-length _ (c .before .before .before .before .before .before .before .before .if3 .taken)) (c .before .before .before .before .before .before .ink .ensures) (c .before .before .write-node2 .ensures)
-
--- src/node.rt:363:29
-write-inner-add-ink : (t : ℕ) → write-inner-lts.Need-add-ink (
-  write-node-below t,
-  write-node.Post,
-  refuse-reads.Asked,
-  refuse-reads.Learnt,
-  ink-reads.Asked,
-  ink-reads.Learnt,
-) (write-inner-at t) write-inner.Post
+write-inner-add-ink : (t : ℕ) → write-inner-lts.Need-add-ink (write-node-below t, write-node.Post, refuse-reads.Asked, refuse-reads.Learnt, ink-reads.Asked, ink-reads.Learnt) (write-inner-at t) write-inner.Post
 write-inner-add-ink t c = omega (arith, (c .before .before .if2 .left))
 
--- src/node.rt:363:9
-write-inner-ink-requires-2 : (t : ℕ) → write-inner-lts.Need-ink-requires-2 (
-  write-node-below t,
-  write-node.Post,
-  refuse-reads.Asked,
-  refuse-reads.Learnt,
-  ink-reads.Asked,
-  ink-reads.Learnt,
-) (write-inner-at t) write-inner.Post
+write-inner-ink-requires-2 : (t : ℕ) → write-inner-lts.Need-ink-requires-2 (write-node-below t, write-node.Post, refuse-reads.Asked, refuse-reads.Learnt, ink-reads.Asked, ink-reads.Learnt) (write-inner-at t) write-inner.Post
 write-inner-ink-requires-2 t c κs = (omega arith, omega (arith, (c .before .before .if2 .left)))
 
--- src/node.rt:364:5
-write-inner-write-node-requires-3 : (t : ℕ) → write-inner-lts.Need-write-node-requires-3 (
-  write-node-below t,
-  write-node.Post,
-  refuse-reads.Asked,
-  refuse-reads.Learnt,
-  ink-reads.Asked,
-  ink-reads.Learnt,
-) (write-inner-at t) write-inner.Post
+write-inner-write-node-requires-3 : (t : ℕ) → write-inner-lts.Need-write-node-requires-3 (write-node-below t, write-node.Post, refuse-reads.Asked, refuse-reads.Learnt, ink-reads.Asked, ink-reads.Learnt) (write-inner-at t) write-inner.Post
 write-inner-write-node-requires-3 t c κs = (omega (arith, (c .before .before .before .before .before .before .before .before .before .before .before .before .before .before .before .before .before .pre .0)), (((c .before .before .before .before .before .before .before .before .before .before .before .before .before .before .before .before .before .pre .1) .0), (c .before .before .before .before .before .before .before .before .before .before .before .before .before .before .before .before .before .pre .1) .1, (c .before .before .before .before .before .before .before .before .before .before .before .before .before .before .before .before .before .pre .1) .2))
 
--- src/node.rt:328:1
-write-inner-same-length-2 : (t : ℕ) → write-inner-lts.Need-same-length-2 (
-  write-node-below t,
-  write-node.Post,
-  refuse-reads.Asked,
-  refuse-reads.Learnt,
-  ink-reads.Asked,
-  ink-reads.Learnt,
-) (write-inner-at t) write-inner.Post
-write-inner-same-length-2 t c = search needs
+write-inner-returns-4 : (t : ℕ) → write-inner-lts.Need-returns-4 (write-node-below t, write-node.Post, refuse-reads.Asked, refuse-reads.Learnt, ink-reads.Asked, ink-reads.Learnt) (write-inner-at t) write-inner.Post
+write-inner-returns-4 t c =
+    let e = c .before .before .before .before .before .before .before .before .before .before .before .before .before .before .before .before .before .before .before .before in
+    inner-goes (bitOf (e .args .src .now)) _ _ _ (formatAt (e .args .g) (e .args .nodes .now) (e .args .down .now) (e .args .up .now) (e .args .k)) (e .args .p) _ (c .before .before .before .before .before .before .before .before .before .before .before .before .write-node .result) _ _ refl refl refl (c .before .before .before .before .before .before .before .before .before .before .before .before .write-node .ensures) ((e .pre .1) .3) 16 _ _ _ _ _ _ (c .before .before .before .before .before .before .before .before .before .if2 .left) (long-length _ (c .before .before .before .before .before .before .before .before .if3 .left) (c .before .before .before .before .before .before .before .before .before .if2 .left)) (c .before .before .before .before .before .before .ink2 .ensures) (c .before .before .write-node3 .ensures)
 
--- src/node.rt:328:1
-write-inner-returns-4 : (t : ℕ) → write-inner-lts.Need-returns-4 (
-  write-node-below t,
-  write-node.Post,
-  refuse-reads.Asked,
-  refuse-reads.Learnt,
-  ink-reads.Asked,
-  ink-reads.Learnt,
-) (write-inner-at t) write-inner.Post
-write-inner-returns-4 t c = inner-goes (bitOf (c .before .before .before .before .before .before .before .before .before .before .before .before .before .before .before .before .before .before .before .before .args .src .now)) _ _ _ (formatAt (c .before .before .before .before .before .before .before .before .before .before .before .before .before .before .before .before .before .before .before .before .args .g) (c .before .before .before .before .before .before .before .before .before .before .before .before .before .before .before .before .before .before .before .before .args .nodes .now) (c .before .before .before .before .before .before .before .before .before .before .before .before .before .before .before .before .before .before .before .before .args .down .now) (c .before .before .before .before .before .before .before .before .before .before .before .before .before .before .before .before .before .before .before .before .args .up .now) (c .before .before .before .before .before .before .before .before .before .before .before .before .before .before .before .before .before .before .before .before .args .k)) (c .before .before .before .before .before .before .before .before .before .before .before .before .before .before .before .before .before .before .before .before .args .p) _ (c .before .before .before .before .before .before .before .before .before .before .before .before .write-node .result) _ _ refl refl refl (c .before .before .before .before .before .before .before .before .before .before .before .before .write-node .ensures) ((c .before .before .before .before .before .before .before .before .before .before .before .before .before .before .before .before .before .before .before .before .pre .1) .3) 16 _ _ _ _ _ _ (c .before .before .before .before .before .before .before .before .before .if2 .left) (long-length _ (c .before .before .before .before .before .before .before .before .if3 .left) (c .before .before .before .before .before .before .before .before .before .if2 .left)) (c .before .before .before .before .before .before .ink2 .ensures) (c .before .before .write-node3 .ensures)
-
--- src/node.rt:242:9
-write-list-place-requires : (t : ℕ) → write-list-lts.Need-place-requires (
-  place-reads.Asked,
-  place-reads.Learnt,
-  bits-for-reads.Asked,
-  bits-for-reads.Learnt,
-  skip-reads.Asked,
-  skip-reads.Learnt,
-  write-repeat-below t,
-  write-repeat.Post,
-  refuse-reads.Asked,
-  refuse-reads.Learnt,
-  put-at-reads.Asked,
-  put-at-reads.Learnt,
-) (write-list-at t) write-list.Post
-write-list-place-requires t c κs = search needs
-
--- src/node.rt:243:22
-write-list-sub-bits-for : (t : ℕ) → write-list-lts.Need-sub-bits-for (
-  place-reads.Asked,
-  place-reads.Learnt,
-  bits-for-reads.Asked,
-  bits-for-reads.Learnt,
-  skip-reads.Asked,
-  skip-reads.Learnt,
-  write-repeat-below t,
-  write-repeat.Post,
-  refuse-reads.Asked,
-  refuse-reads.Learnt,
-  put-at-reads.Asked,
-  put-at-reads.Learnt,
-) (write-list-at t) write-list.Post
+write-list-sub-bits-for : (t : ℕ) → write-list-lts.Need-sub-bits-for (place-reads.Asked, place-reads.Learnt, bits-for-reads.Asked, bits-for-reads.Learnt, skip-reads.Asked, skip-reads.Learnt, write-repeat-below t, write-repeat.Post, refuse-reads.Asked, refuse-reads.Learnt, put-at-reads.Asked, put-at-reads.Learnt) (write-list-at t) write-list.Post
 write-list-sub-bits-for t c = omega (arith, (c .before .before .before .before .before .before .before .pre .1) .2)
 
--- src/node.rt:243:9
-write-list-bits-for-requires : (t : ℕ) → write-list-lts.Need-bits-for-requires (
-  place-reads.Asked,
-  place-reads.Learnt,
-  bits-for-reads.Asked,
-  bits-for-reads.Learnt,
-  skip-reads.Asked,
-  skip-reads.Learnt,
-  write-repeat-below t,
-  write-repeat.Post,
-  refuse-reads.Asked,
-  refuse-reads.Learnt,
-  put-at-reads.Asked,
-  put-at-reads.Learnt,
-) (write-list-at t) write-list.Post
-write-list-bits-for-requires t c κs = search needs
-
--- src/node.rt:244:9
-write-list-skip-requires : (t : ℕ) → write-list-lts.Need-skip-requires (
-  place-reads.Asked,
-  place-reads.Learnt,
-  bits-for-reads.Asked,
-  bits-for-reads.Learnt,
-  skip-reads.Asked,
-  skip-reads.Learnt,
-  write-repeat-below t,
-  write-repeat.Post,
-  refuse-reads.Asked,
-  refuse-reads.Learnt,
-  put-at-reads.Asked,
-  put-at-reads.Learnt,
-) (write-list-at t) write-list.Post
+write-list-skip-requires : (t : ℕ) → write-list-lts.Need-skip-requires (place-reads.Asked, place-reads.Learnt, bits-for-reads.Asked, bits-for-reads.Learnt, skip-reads.Asked, skip-reads.Learnt, write-repeat-below t, write-repeat.Post, refuse-reads.Asked, refuse-reads.Learnt, put-at-reads.Asked, put-at-reads.Learnt) (write-list-at t) write-list.Post
 write-list-skip-requires t c κs = omega (arith, (c .bits-for .ensures) .1)
 
--- src/node.rt:245:9
-write-list-write-repeat-requires : (t : ℕ) → write-list-lts.Need-write-repeat-requires (
-  place-reads.Asked,
-  place-reads.Learnt,
-  bits-for-reads.Asked,
-  bits-for-reads.Learnt,
-  skip-reads.Asked,
-  skip-reads.Learnt,
-  write-repeat-below t,
-  write-repeat.Post,
-  refuse-reads.Asked,
-  refuse-reads.Learnt,
-  put-at-reads.Asked,
-  put-at-reads.Learnt,
-) (write-list-at t) write-list.Post
+write-list-write-repeat-requires : (t : ℕ) → write-list-lts.Need-write-repeat-requires (place-reads.Asked, place-reads.Learnt, bits-for-reads.Asked, bits-for-reads.Learnt, skip-reads.Asked, skip-reads.Learnt, write-repeat-below t, write-repeat.Post, refuse-reads.Asked, refuse-reads.Learnt, put-at-reads.Asked, put-at-reads.Learnt) (write-list-at t) write-list.Post
 write-list-write-repeat-requires t c κs = (omega (arith, (c .before .before .before .before .before .before .before .before .before .before .pre .0), (c .before .before .before .before .before .before .before .before .before .before .pre .1) .3), (((c .before .before .before .before .before .before .before .before .before .before .pre .1) .0), (c .before .before .before .before .before .before .before .before .before .before .pre .1) .1, omega (arith, (c .before .before .before .before .before .before .before .before .before .before .pre .1) .3), (c .before .before .before .before .before .before .before .before .before .before .pre .1) .3, (c .before .before .before .before .before .before .before .before .before .before .pre .1) .4, (c .before .before .before .before .before .before .before .before .before .before .pre .1) .5))
 
--- src/node.rt:263:9
-write-list-same-length : (t : ℕ) → write-list-lts.Need-same-length (
-  place-reads.Asked,
-  place-reads.Learnt,
-  bits-for-reads.Asked,
-  bits-for-reads.Learnt,
-  skip-reads.Asked,
-  skip-reads.Learnt,
-  write-repeat-below t,
-  write-repeat.Post,
-  refuse-reads.Asked,
-  refuse-reads.Learnt,
-  put-at-reads.Asked,
-  put-at-reads.Learnt,
-) (write-list-at t) write-list.Post
-write-list-same-length t c = search needs
+write-list-returns : (t : ℕ) → write-list-lts.Need-returns (place-reads.Asked, place-reads.Learnt, bits-for-reads.Asked, bits-for-reads.Learnt, skip-reads.Asked, skip-reads.Learnt, write-repeat-below t, write-repeat.Post, refuse-reads.Asked, refuse-reads.Learnt, put-at-reads.Asked, put-at-reads.Learnt) (write-list-at t) write-list.Post
+write-list-returns t c =
+    let e = c .before .before .before .before .before .before .before .before .before .before .before .before .before .before .before in
+    many-refused (bitOf (e .args .src .now)) _ _ _ (e .args .lo) (e .args .hi) (formatAt (e .args .g) (e .args .nodes .now) (e .args .down .now) (e .args .up .now) (e .args .k)) (e .args .p) _ _ _ _ _ _ (skips-as ((c .before .before .before .before .before .before .before .bits-for .ensures) .0) (c .before .before .before .before .before .before .skip .ensures)) (c .before .before .before .before .write-repeat .ensures) _ (c .if1 .taken) (c .if1 .taken)
 
--- src/node.rt:263:9
-write-list-returns : (t : ℕ) → write-list-lts.Need-returns (
-  place-reads.Asked,
-  place-reads.Learnt,
-  bits-for-reads.Asked,
-  bits-for-reads.Learnt,
-  skip-reads.Asked,
-  skip-reads.Learnt,
-  write-repeat-below t,
-  write-repeat.Post,
-  refuse-reads.Asked,
-  refuse-reads.Learnt,
-  put-at-reads.Asked,
-  put-at-reads.Learnt,
-) (write-list-at t) write-list.Post
-write-list-returns t c = many-refused (bitOf (c .before .before .before .before .before .before .before .before .before .before .before .before .before .before .before .args .src .now)) _ _ _ (c .before .before .before .before .before .before .before .before .before .before .before .before .before .before .before .args .lo) (c .before .before .before .before .before .before .before .before .before .before .before .before .before .before .before .args .hi) (formatAt (c .before .before .before .before .before .before .before .before .before .before .before .before .before .before .before .args .g) (c .before .before .before .before .before .before .before .before .before .before .before .before .before .before .before .args .nodes .now) (c .before .before .before .before .before .before .before .before .before .before .before .before .before .before .before .args .down .now) (c .before .before .before .before .before .before .before .before .before .before .before .before .before .before .before .args .up .now) (c .before .before .before .before .before .before .before .before .before .before .before .before .before .before .before .args .k)) (c .before .before .before .before .before .before .before .before .before .before .before .before .before .before .before .args .p) _ _ _ _ _ _ (skips-as ((c .before .before .before .before .before .before .before .bits-for .ensures) .0) (c .before .before .before .before .before .before .skip .ensures)) (c .before .before .before .before .write-repeat .ensures) _ (c .if1 .taken) (c .if1 .taken)
+write-list-returns-2 : (t : ℕ) → write-list-lts.Need-returns-2 (place-reads.Asked, place-reads.Learnt, bits-for-reads.Asked, bits-for-reads.Learnt, skip-reads.Asked, skip-reads.Learnt, write-repeat-below t, write-repeat.Post, refuse-reads.Asked, refuse-reads.Learnt, put-at-reads.Asked, put-at-reads.Learnt) (write-list-at t) write-list.Post
+write-list-returns-2 t c =
+    let e = c .before .before .before .before .before .before .before .before .before .before .before .before .before .before .before .before .before in
+    many-few (bitOf (e .args .src .now)) _ _ _ (e .args .lo) (e .args .hi) (formatAt (e .args .g) (e .args .nodes .now) (e .args .down .now) (e .args .up .now) (e .args .k)) (e .args .p) _ _ _ _ _ _ (skips-as ((c .before .before .before .before .before .before .before .before .before .bits-for .ensures) .0) (c .before .before .before .before .before .before .before .before .skip .ensures)) (c .before .before .before .before .before .before .write-repeat .ensures) _ (c .before .if2 .taken) (c .refuse .ensures)
 
--- src/node.rt:267:9
-write-list-refuse-requires : (t : ℕ) → write-list-lts.Need-refuse-requires (
-  place-reads.Asked,
-  place-reads.Learnt,
-  bits-for-reads.Asked,
-  bits-for-reads.Learnt,
-  skip-reads.Asked,
-  skip-reads.Learnt,
-  write-repeat-below t,
-  write-repeat.Post,
-  refuse-reads.Asked,
-  refuse-reads.Learnt,
-  put-at-reads.Asked,
-  put-at-reads.Learnt,
-) (write-list-at t) write-list.Post
-write-list-refuse-requires t c κs = search needs
+write-list-put-at-requires : (t : ℕ) → write-list-lts.Need-put-at-requires (place-reads.Asked, place-reads.Learnt, bits-for-reads.Asked, bits-for-reads.Learnt, skip-reads.Asked, skip-reads.Learnt, write-repeat-below t, write-repeat.Post, refuse-reads.Asked, refuse-reads.Learnt, put-at-reads.Asked, put-at-reads.Learnt) (write-list-at t) write-list.Post
+write-list-put-at-requires t c κs =
+    let e = c .before .before .before .before .before .before .before .before .before .before .before .before .before .before .before .before .before in
+    ((c .before .before .before .before .before .before .before .before .before .bits-for .ensures) .1, size-fits (e .args .lo) (e .args .hi) (c .before .before .before .before .before .before .write-repeat .result .count) ((e .pre .1) .2) ((c .before .before .before .before .before .before .write-repeat .ensures) .few) ((c .before .before .before .before .before .before .before .before .before .bits-for .ensures) .0))
 
--- src/node.rt:267:9
-write-list-same-length-2 : (t : ℕ) → write-list-lts.Need-same-length-2 (
-  place-reads.Asked,
-  place-reads.Learnt,
-  bits-for-reads.Asked,
-  bits-for-reads.Learnt,
-  skip-reads.Asked,
-  skip-reads.Learnt,
-  write-repeat-below t,
-  write-repeat.Post,
-  refuse-reads.Asked,
-  refuse-reads.Learnt,
-  put-at-reads.Asked,
-  put-at-reads.Learnt,
-) (write-list-at t) write-list.Post
-write-list-same-length-2 t c = search needs
+write-list-returns-3 : (t : ℕ) → write-list-lts.Need-returns-3 (place-reads.Asked, place-reads.Learnt, bits-for-reads.Asked, bits-for-reads.Learnt, skip-reads.Asked, skip-reads.Learnt, write-repeat-below t, write-repeat.Post, refuse-reads.Asked, refuse-reads.Learnt, put-at-reads.Asked, put-at-reads.Learnt) (write-list-at t) write-list.Post
+write-list-returns-3 t c =
+    let e = c .before .before .before .before .before .before .before .before .before .before .before .before .before .before .before .before .before .before .before .before in
+    many-part (bitOf (e .args .src .now)) _ _ _ (e .args .lo) (e .args .hi) (formatAt (e .args .g) (e .args .nodes .now) (e .args .down .now) (e .args .up .now) (e .args .k)) (e .args .p) _ _ _ _ _ _ (skips-as ((c .before .before .before .before .before .before .before .before .before .before .before .before .bits-for .ensures) .0) (c .before .before .before .before .before .before .before .before .before .before .before .skip .ensures)) (c .before .before .before .before .before .before .before .before .before .write-repeat .ensures) (c .before .before .before .before .if2 .left) (put-size (e .args .p) _ _ _ _ _ _ ((c .before .before .before .before .before .before .before .before .before .before .before .before .before .place .ensures) .0) ((c .before .before .before .before .before .before .before .before .before .before .before .before .before .place .ensures) .1) ((c .before .before .before .before .before .before .before .before .before .before .before .before .bits-for .ensures) .0) (c .before .before .put-at .ensures))
 
--- src/node.rt:267:9
-write-list-returns-2 : (t : ℕ) → write-list-lts.Need-returns-2 (
-  place-reads.Asked,
-  place-reads.Learnt,
-  bits-for-reads.Asked,
-  bits-for-reads.Learnt,
-  skip-reads.Asked,
-  skip-reads.Learnt,
-  write-repeat-below t,
-  write-repeat.Post,
-  refuse-reads.Asked,
-  refuse-reads.Learnt,
-  put-at-reads.Asked,
-  put-at-reads.Learnt,
-) (write-list-at t) write-list.Post
-write-list-returns-2 t c = many-few (bitOf (c .before .before .before .before .before .before .before .before .before .before .before .before .before .before .before .before .before .args .src .now)) _ _ _ (c .before .before .before .before .before .before .before .before .before .before .before .before .before .before .before .before .before .args .lo) (c .before .before .before .before .before .before .before .before .before .before .before .before .before .before .before .before .before .args .hi) (formatAt (c .before .before .before .before .before .before .before .before .before .before .before .before .before .before .before .before .before .args .g) (c .before .before .before .before .before .before .before .before .before .before .before .before .before .before .before .before .before .args .nodes .now) (c .before .before .before .before .before .before .before .before .before .before .before .before .before .before .before .before .before .args .down .now) (c .before .before .before .before .before .before .before .before .before .before .before .before .before .before .before .before .before .args .up .now) (c .before .before .before .before .before .before .before .before .before .before .before .before .before .before .before .before .before .args .k)) (c .before .before .before .before .before .before .before .before .before .before .before .before .before .before .before .before .before .args .p) _ _ _ _ _ _ (skips-as ((c .before .before .before .before .before .before .before .before .before .bits-for .ensures) .0) (c .before .before .before .before .before .before .before .before .skip .ensures)) (c .before .before .before .before .before .before .write-repeat .ensures) _ (c .before .if2 .taken) (c .refuse .ensures)
+write-members-returns : (t : ℕ) → write-members-lts.Need-returns (node-at-reads.Asked, node-at-reads.Learnt, meet-reads.Asked, meet-reads.Learnt, write-node-below t, write-node.Post, write-members-below t, write-members.Post) (write-members-at t) write-members.Post
+write-members-returns t c =
+    let e = c .before .before .before .before .before .before .before in
+    no-members (λ j. formatAt (e .args .g) (e .args .nodes .now) (e .args .down .now) (e .args .up .now) j) (e .args .nodes .now) (e .args .k) (e .args .n) _ _ _ _ _ _ _ (c .if1 .taken)
 
--- src/node.rt:269:5
-write-list-put-at-requires : (t : ℕ) → write-list-lts.Need-put-at-requires (
-  place-reads.Asked,
-  place-reads.Learnt,
-  bits-for-reads.Asked,
-  bits-for-reads.Learnt,
-  skip-reads.Asked,
-  skip-reads.Learnt,
-  write-repeat-below t,
-  write-repeat.Post,
-  refuse-reads.Asked,
-  refuse-reads.Learnt,
-  put-at-reads.Asked,
-  put-at-reads.Learnt,
-) (write-list-at t) write-list.Post
-write-list-put-at-requires t c κs = ((c .before .before .before .before .before .before .before .before .before .bits-for .ensures) .1, size-fits (c .before .before .before .before .before .before .before .before .before .before .before .before .before .before .before .before .before .args .lo) (c .before .before .before .before .before .before .before .before .before .before .before .before .before .before .before .before .before .args .hi) (c .before .before .before .before .before .before .write-repeat .result .count) ((c .before .before .before .before .before .before .before .before .before .before .before .before .before .before .before .before .before .pre .1) .2) ((c .before .before .before .before .before .before .write-repeat .ensures) .few) ((c .before .before .before .before .before .before .before .before .before .bits-for .ensures) .0))
-
--- src/node.rt:222:1
-write-list-same-length-3 : (t : ℕ) → write-list-lts.Need-same-length-3 (
-  place-reads.Asked,
-  place-reads.Learnt,
-  bits-for-reads.Asked,
-  bits-for-reads.Learnt,
-  skip-reads.Asked,
-  skip-reads.Learnt,
-  write-repeat-below t,
-  write-repeat.Post,
-  refuse-reads.Asked,
-  refuse-reads.Learnt,
-  put-at-reads.Asked,
-  put-at-reads.Learnt,
-) (write-list-at t) write-list.Post
-write-list-same-length-3 t c = search needs
-
--- src/node.rt:222:1
-write-list-returns-3 : (t : ℕ) → write-list-lts.Need-returns-3 (
-  place-reads.Asked,
-  place-reads.Learnt,
-  bits-for-reads.Asked,
-  bits-for-reads.Learnt,
-  skip-reads.Asked,
-  skip-reads.Learnt,
-  write-repeat-below t,
-  write-repeat.Post,
-  refuse-reads.Asked,
-  refuse-reads.Learnt,
-  put-at-reads.Asked,
-  put-at-reads.Learnt,
-) (write-list-at t) write-list.Post
-write-list-returns-3 t c = many-part (bitOf (c .before .before .before .before .before .before .before .before .before .before .before .before .before .before .before .before .before .before .before .before .args .src .now)) _ _ _ (c .before .before .before .before .before .before .before .before .before .before .before .before .before .before .before .before .before .before .before .before .args .lo) (c .before .before .before .before .before .before .before .before .before .before .before .before .before .before .before .before .before .before .before .before .args .hi) (formatAt (c .before .before .before .before .before .before .before .before .before .before .before .before .before .before .before .before .before .before .before .before .args .g) (c .before .before .before .before .before .before .before .before .before .before .before .before .before .before .before .before .before .before .before .before .args .nodes .now) (c .before .before .before .before .before .before .before .before .before .before .before .before .before .before .before .before .before .before .before .before .args .down .now) (c .before .before .before .before .before .before .before .before .before .before .before .before .before .before .before .before .before .before .before .before .args .up .now) (c .before .before .before .before .before .before .before .before .before .before .before .before .before .before .before .before .before .before .before .before .args .k)) (c .before .before .before .before .before .before .before .before .before .before .before .before .before .before .before .before .before .before .before .before .args .p) _ _ _ _ _ _ (skips-as ((c .before .before .before .before .before .before .before .before .before .before .before .before .bits-for .ensures) .0) (c .before .before .before .before .before .before .before .before .before .before .before .skip .ensures)) (c .before .before .before .before .before .before .before .before .before .write-repeat .ensures) (c .before .before .before .before .if2 .left) (put-size (c .before .before .before .before .before .before .before .before .before .before .before .before .before .before .before .before .before .before .before .before .args .p) _ _ _ _ _ _ ((c .before .before .before .before .before .before .before .before .before .before .before .before .before .place .ensures) .0) ((c .before .before .before .before .before .before .before .before .before .before .before .before .before .place .ensures) .1) ((c .before .before .before .before .before .before .before .before .before .before .before .before .bits-for .ensures) .0) (c .before .before .put-at .ensures))
-
--- src/node.rt:178:9
-write-members-returns : (t : ℕ) → write-members-lts.Need-returns (
-  node-at-reads.Asked,
-  node-at-reads.Learnt,
-  meet-reads.Asked,
-  meet-reads.Learnt,
-  write-node-below t,
-  write-node.Post,
-  write-members-below t,
-  write-members.Post,
-) (write-members-at t) write-members.Post
-write-members-returns t c = no-members (λ j. formatAt (c .before .before .before .before .before .before .before .args .g) (c .before .before .before .before .before .before .before .args .nodes .now) (c .before .before .before .before .before .before .before .args .down .now) (c .before .before .before .before .before .before .before .args .up .now) j) (c .before .before .before .before .before .before .before .args .nodes .now) (c .before .before .before .before .before .before .before .args .k) (c .before .before .before .before .before .before .before .args .n) _ _ _ _ _ _ _ (c .if1 .taken)
-
--- src/node.rt:180:9
-write-members-node-at-requires : (t : ℕ) → write-members-lts.Need-node-at-requires (
-  node-at-reads.Asked,
-  node-at-reads.Learnt,
-  meet-reads.Asked,
-  meet-reads.Learnt,
-  write-node-below t,
-  write-node.Post,
-  write-members-below t,
-  write-members.Post,
-) (write-members-at t) write-members.Post
+write-members-node-at-requires : (t : ℕ) → write-members-lts.Need-node-at-requires (node-at-reads.Asked, node-at-reads.Learnt, meet-reads.Asked, meet-reads.Learnt, write-node-below t, write-node.Post, write-members-below t, write-members.Post) (write-members-at t) write-members.Post
 write-members-node-at-requires t c κs = ((c .before .before .before .before .before .before .before .pre .1) .0) .nodes
 
--- src/node.rt:181:9
-write-members-meet-requires : (t : ℕ) → write-members-lts.Need-meet-requires (
-  node-at-reads.Asked,
-  node-at-reads.Learnt,
-  meet-reads.Asked,
-  meet-reads.Learnt,
-  write-node-below t,
-  write-node.Post,
-  write-members-below t,
-  write-members.Post,
-) (write-members-at t) write-members.Post
-write-members-meet-requires t c κs = (((c .before .before .before .before .before .before .before .before .before .pre .1) .0) .list .records, ((c .before .before .before .before .before .before .before .before .before .pre .1) .0) .list .few, omega (arith, (c .before .before .before .before .before .before .before .before .before .pre .1) .4), noted-tag (λ j. formatAt (c .before .before .before .before .before .before .before .before .before .args .g) (c .before .before .before .before .before .before .before .before .before .args .nodes .now) (c .before .before .before .before .before .before .before .before .before .args .down .now) (c .before .before .before .before .before .before .before .before .before .args .up .now) j) (λ j. sureAt (c .before .before .before .before .before .before .before .before .before .args .g) (c .before .before .before .before .before .before .before .before .before .args .nodes .now) (c .before .before .before .before .before .before .before .before .before .args .down .now) (c .before .before .before .before .before .before .before .before .before .args .up .now) j) _ _ _ _ _ ((sure-members (c .before .before .before .before .before .before .before .before .before .args .nodes .now) (c .before .before .before .before .before .before .before .before .before .args .down .now) (c .before .before .before .before .before .before .before .before .before .args .up .now) (λ j. formatAt (c .before .before .before .before .before .before .before .before .before .args .g) (c .before .before .before .before .before .before .before .before .before .args .nodes .now) (c .before .before .before .before .before .before .before .before .before .args .down .now) (c .before .before .before .before .before .before .before .before .before .args .up .now) j) (λ j. sureAt (c .before .before .before .before .before .before .before .before .before .args .g) (c .before .before .before .before .before .before .before .before .before .args .nodes .now) (c .before .before .before .before .before .before .before .before .before .args .down .now) (c .before .before .before .before .before .before .before .before .before .args .up .now) j) (c .before .before .before .before .before .before .before .before .before .args .k) (c .before .before .before .before .before .before .before .before .before .args .n) (c .before .node-at .result) (c .before .before .if1 .left) (c .before .node-at .ensures) ((c .before .before .before .before .before .before .before .before .before .pre .1) .5)) .0))
+write-members-meet-requires : (t : ℕ) → write-members-lts.Need-meet-requires (node-at-reads.Asked, node-at-reads.Learnt, meet-reads.Asked, meet-reads.Learnt, write-node-below t, write-node.Post, write-members-below t, write-members.Post) (write-members-at t) write-members.Post
+write-members-meet-requires t c κs =
+    let e = c .before .before .before .before .before .before .before .before .before in
+    (((e .pre .1) .0) .list .records, ((e .pre .1) .0) .list .few, omega (arith, (e .pre .1) .4), noted-tag (λ j. formatAt (e .args .g) (e .args .nodes .now) (e .args .down .now) (e .args .up .now) j) (λ j. sureAt (e .args .g) (e .args .nodes .now) (e .args .down .now) (e .args .up .now) j) _ _ _ _ _ ((sure-members (e .args .nodes .now) (e .args .down .now) (e .args .up .now) (λ j. formatAt (e .args .g) (e .args .nodes .now) (e .args .down .now) (e .args .up .now) j) (λ j. sureAt (e .args .g) (e .args .nodes .now) (e .args .down .now) (e .args .up .now) j) (e .args .k) (e .args .n) (c .before .node-at .result) (c .before .before .if1 .left) (c .before .node-at .ensures) ((e .pre .1) .5)) .0))
 
--- src/node.rt:185:13
-write-members-write-node-requires : (t : ℕ) → write-members-lts.Need-write-node-requires (
-  node-at-reads.Asked,
-  node-at-reads.Learnt,
-  meet-reads.Asked,
-  meet-reads.Learnt,
-  write-node-below t,
-  write-node.Post,
-  write-members-below t,
-  write-members.Post,
-) (write-members-at t) write-members.Post
-write-members-write-node-requires t c κs = (omega (arith, (c .before .before .before .before .before .before .before .before .before .before .before .before .before .before .before .pre .0)), (((c .before .before .before .before .before .before .before .before .before .before .before .before .before .before .before .pre .1) .0), (c .before .before .before .before .before .before .before .before .before .before .before .before .before .before .before .pre .1) .1, ((c .before .before .before .before .before .meet .ensures) .0 (λ j. formatAt (c .before .before .before .before .before .before .before .before .before .before .before .before .before .before .before .args .g) (c .before .before .before .before .before .before .before .before .before .before .before .before .before .before .before .args .nodes .now) (c .before .before .before .before .before .before .before .before .before .before .before .before .before .before .before .args .down .now) (c .before .before .before .before .before .before .before .before .before .before .before .before .before .before .before .args .up .now) j) (λ j. sureAt (c .before .before .before .before .before .before .before .before .before .before .before .before .before .before .before .args .g) (c .before .before .before .before .before .before .before .before .before .before .before .before .before .before .before .args .nodes .now) (c .before .before .before .before .before .before .before .before .before .before .before .before .before .before .before .args .down .now) (c .before .before .before .before .before .before .before .before .before .before .before .before .before .before .before .args .up .now) j) (membersFrom (λ j. formatAt (c .before .before .before .before .before .before .before .before .before .before .before .before .before .before .before .args .g) (c .before .before .before .before .before .before .before .before .before .before .before .before .before .before .before .args .nodes .now) (c .before .before .before .before .before .before .before .before .before .before .before .before .before .before .before .args .down .now) (c .before .before .before .before .before .before .before .before .before .before .before .before .before .before .before .args .up .now) j) (c .before .before .before .before .before .before .before .before .before .before .before .before .before .before .before .args .nodes .now) ((c .before .before .before .before .before .before .before .before .before .before .before .before .before .before .before .args .k) + 1) ((c .before .before .before .before .before .before .before .before .before .before .before .before .before .before .before .args .n) - 1)) (c .before .before .before .before .before .before .before .before .before .before .before .before .before .before .before .args .y) (bitOf (c .before .before .before .before .before .before .before .before .before .before .before .before .before .before .before .args .src .now)) ((sure-members (c .before .before .before .before .before .before .before .before .before .before .before .before .before .before .before .args .nodes .now) (c .before .before .before .before .before .before .before .before .before .before .before .before .before .before .before .args .down .now) (c .before .before .before .before .before .before .before .before .before .before .before .before .before .before .before .args .up .now) (λ j. formatAt (c .before .before .before .before .before .before .before .before .before .before .before .before .before .before .before .args .g) (c .before .before .before .before .before .before .before .before .before .before .before .before .before .before .before .args .nodes .now) (c .before .before .before .before .before .before .before .before .before .before .before .before .before .before .before .args .down .now) (c .before .before .before .before .before .before .before .before .before .before .before .before .before .before .before .args .up .now) j) (λ j. sureAt (c .before .before .before .before .before .before .before .before .before .before .before .before .before .before .before .args .g) (c .before .before .before .before .before .before .before .before .before .before .before .before .before .before .before .args .nodes .now) (c .before .before .before .before .before .before .before .before .before .before .before .before .before .before .before .args .down .now) (c .before .before .before .before .before .before .before .before .before .before .before .before .before .before .before .args .up .now) j) (c .before .before .before .before .before .before .before .before .before .before .before .before .before .before .before .args .k) (c .before .before .before .before .before .before .before .before .before .before .before .before .before .before .before .args .n) (c .before .before .before .before .before .before .before .node-at .result) (c .before .before .before .before .before .before .before .before .if1 .left) (c .before .before .before .before .before .before .before .node-at .ensures) ((c .before .before .before .before .before .before .before .before .before .before .before .before .before .before .before .pre .1) .5)) .0)) .sure (c .before .if2 .taken)))
+write-members-write-node-requires : (t : ℕ) → write-members-lts.Need-write-node-requires (node-at-reads.Asked, node-at-reads.Learnt, meet-reads.Asked, meet-reads.Learnt, write-node-below t, write-node.Post, write-members-below t, write-members.Post) (write-members-at t) write-members.Post
+write-members-write-node-requires t c κs =
+    let e = c .before .before .before .before .before .before .before .before .before .before .before .before .before .before .before in
+    (omega (arith, (e .pre .0)), (((e .pre .1) .0), (e .pre .1) .1, ((c .before .before .before .before .before .meet .ensures) .0 (λ j. formatAt (e .args .g) (e .args .nodes .now) (e .args .down .now) (e .args .up .now) j) (λ j. sureAt (e .args .g) (e .args .nodes .now) (e .args .down .now) (e .args .up .now) j) (membersFrom (λ j. formatAt (e .args .g) (e .args .nodes .now) (e .args .down .now) (e .args .up .now) j) (e .args .nodes .now) ((e .args .k) + 1) ((e .args .n) - 1)) (e .args .y) (bitOf (e .args .src .now)) ((sure-members (e .args .nodes .now) (e .args .down .now) (e .args .up .now) (λ j. formatAt (e .args .g) (e .args .nodes .now) (e .args .down .now) (e .args .up .now) j) (λ j. sureAt (e .args .g) (e .args .nodes .now) (e .args .down .now) (e .args .up .now) j) (e .args .k) (e .args .n) (c .before .before .before .before .before .before .before .node-at .result) (c .before .before .before .before .before .before .before .before .if1 .left) (c .before .before .before .before .before .before .before .node-at .ensures) ((e .pre .1) .5)) .0)) .sure (c .before .if2 .taken)))
 
--- src/node.rt:194:13
-write-members-add-write-members : (t : ℕ) → write-members-lts.Need-add-write-members (
-  node-at-reads.Asked,
-  node-at-reads.Learnt,
-  meet-reads.Asked,
-  meet-reads.Learnt,
-  write-node-below t,
-  write-node.Post,
-  write-members-below t,
-  write-members.Post,
-) (write-members-at t) write-members.Post
+write-members-add-write-members : (t : ℕ) → write-members-lts.Need-add-write-members (node-at-reads.Asked, node-at-reads.Learnt, meet-reads.Asked, meet-reads.Learnt, write-node-below t, write-node.Post, write-members-below t, write-members.Post) (write-members-at t) write-members.Post
 write-members-add-write-members t c = omega (arith, (c .before .before .before .before .before .before .before .before .before .before .before .before .before .before .before .before .before .before .before .pre .1) .2)
 
--- src/node.rt:195:13
-write-members-sub-write-members : (t : ℕ) → write-members-lts.Need-sub-write-members (
-  node-at-reads.Asked,
-  node-at-reads.Learnt,
-  meet-reads.Asked,
-  meet-reads.Learnt,
-  write-node-below t,
-  write-node.Post,
-  write-members-below t,
-  write-members.Post,
-) (write-members-at t) write-members.Post
+write-members-sub-write-members : (t : ℕ) → write-members-lts.Need-sub-write-members (node-at-reads.Asked, node-at-reads.Learnt, meet-reads.Asked, meet-reads.Learnt, write-node-below t, write-node.Post, write-members-below t, write-members.Post) (write-members-at t) write-members.Post
 write-members-sub-write-members t c = omega (arith, (c .before .before .before .before .before .before .before .before .before .before .before .before .if1 .left))
 
--- src/node.rt:186:9
-write-members-write-members-requires : (t : ℕ) → write-members-lts.Need-write-members-requires (
-  node-at-reads.Asked,
-  node-at-reads.Learnt,
-  meet-reads.Asked,
-  meet-reads.Learnt,
-  write-node-below t,
-  write-node.Post,
-  write-members-below t,
-  write-members.Post,
-) (write-members-at t) write-members.Post
-write-members-write-members-requires t c κs = (omega (arith, (c .before .before .before .before .before .before .before .before .before .before .before .before .before .before .before .before .before .before .before .pre .0), (c .before .before .before .before .before .before .before .before .before .before .before .before .if1 .left)), (((c .before .before .before .before .before .before .before .before .before .before .before .before .before .before .before .before .before .before .before .pre .1) .0), (c .before .before .before .before .before .before .before .before .before .before .before .before .before .before .before .before .before .before .before .pre .1) .1, omega (arith, (c .before .before .before .before .before .before .before .before .before .before .before .before .before .before .before .before .before .before .before .pre .1) .2, (c .before .before .before .before .before .before .before .before .before .before .before .before .if1 .left)), omega (arith, (c .before .before .before .before .before .before .before .before .before .before .before .before .before .before .before .before .before .before .before .pre .1) .3), omega (arith, (c .before .before .before .before .before .before .before .before .before .before .before .before .before .before .before .before .before .before .before .pre .1) .4, (c .before .before .before .before .before .before .before .before .before .meet .ensures) .1, (c .before .before .before .before .before .before .before .before .before .before .before .before .if1 .left)), (sure-members (c .before .before .before .before .before .before .before .before .before .before .before .before .before .before .before .before .before .before .before .args .nodes .now) (c .before .before .before .before .before .before .before .before .before .before .before .before .before .before .before .before .before .before .before .args .down .now) (c .before .before .before .before .before .before .before .before .before .before .before .before .before .before .before .before .before .before .before .args .up .now) (λ j. formatAt (c .before .before .before .before .before .before .before .before .before .before .before .before .before .before .before .before .before .before .before .args .g) (c .before .before .before .before .before .before .before .before .before .before .before .before .before .before .before .before .before .before .before .args .nodes .now) (c .before .before .before .before .before .before .before .before .before .before .before .before .before .before .before .before .before .before .before .args .down .now) (c .before .before .before .before .before .before .before .before .before .before .before .before .before .before .before .before .before .before .before .args .up .now) j) (λ j. sureAt (c .before .before .before .before .before .before .before .before .before .before .before .before .before .before .before .before .before .before .before .args .g) (c .before .before .before .before .before .before .before .before .before .before .before .before .before .before .before .before .before .before .before .args .nodes .now) (c .before .before .before .before .before .before .before .before .before .before .before .before .before .before .before .before .before .before .before .args .down .now) (c .before .before .before .before .before .before .before .before .before .before .before .before .before .before .before .before .before .before .before .args .up .now) j) (c .before .before .before .before .before .before .before .before .before .before .before .before .before .before .before .before .before .before .before .args .k) (c .before .before .before .before .before .before .before .before .before .before .before .before .before .before .before .before .before .before .before .args .n) (c .before .before .before .before .before .before .before .before .before .before .before .node-at .result) (c .before .before .before .before .before .before .before .before .before .before .before .before .if1 .left) (c .before .before .before .before .before .before .before .before .before .before .before .node-at .ensures) ((c .before .before .before .before .before .before .before .before .before .before .before .before .before .before .before .before .before .before .before .pre .1) .5)) .1))
+write-members-write-members-requires : (t : ℕ) → write-members-lts.Need-write-members-requires (node-at-reads.Asked, node-at-reads.Learnt, meet-reads.Asked, meet-reads.Learnt, write-node-below t, write-node.Post, write-members-below t, write-members.Post) (write-members-at t) write-members.Post
+write-members-write-members-requires t c κs =
+    let e = c .before .before .before .before .before .before .before .before .before .before .before .before .before .before .before .before .before .before .before in
+    (omega (arith, (e .pre .0), (c .before .before .before .before .before .before .before .before .before .before .before .before .if1 .left)), (((e .pre .1) .0), (e .pre .1) .1, omega (arith, (e .pre .1) .2, (c .before .before .before .before .before .before .before .before .before .before .before .before .if1 .left)), omega (arith, (e .pre .1) .3), omega (arith, (e .pre .1) .4, (c .before .before .before .before .before .before .before .before .before .meet .ensures) .1, (c .before .before .before .before .before .before .before .before .before .before .before .before .if1 .left)), (sure-members (e .args .nodes .now) (e .args .down .now) (e .args .up .now) (λ j. formatAt (e .args .g) (e .args .nodes .now) (e .args .down .now) (e .args .up .now) j) (λ j. sureAt (e .args .g) (e .args .nodes .now) (e .args .down .now) (e .args .up .now) j) (e .args .k) (e .args .n) (c .before .before .before .before .before .before .before .before .before .before .before .node-at .result) (c .before .before .before .before .before .before .before .before .before .before .before .before .if1 .left) (c .before .before .before .before .before .before .before .before .before .before .before .node-at .ensures) ((e .pre .1) .5)) .1))
 
--- src/node.rt:186:9
-write-members-same-length : (t : ℕ) → write-members-lts.Need-same-length (
-  node-at-reads.Asked,
-  node-at-reads.Learnt,
-  meet-reads.Asked,
-  meet-reads.Learnt,
-  write-node-below t,
-  write-node.Post,
-  write-members-below t,
-  write-members.Post,
-) (write-members-at t) write-members.Post
-write-members-same-length t c = search needs
+write-members-returns-2 : (t : ℕ) → write-members-lts.Need-returns-2 (node-at-reads.Asked, node-at-reads.Learnt, meet-reads.Asked, meet-reads.Learnt, write-node-below t, write-node.Post, write-members-below t, write-members.Post) (write-members-at t) write-members.Post
+write-members-returns-2 t c =
+    let e = c .before .before .before .before .before .before .before .before .before .before .before .before .before .before .before .before .before .before .before .before .before .before in
+    members-as _ _ _ _ _ _ _ _ _ _ _ (members-step (e .args .nodes .now) (e .args .down .now) (e .args .up .now) (λ j. formatAt (e .args .g) (e .args .nodes .now) (e .args .down .now) (e .args .up .now) j) (e .args .k) (e .args .n) (c .before .before .before .before .before .before .before .before .before .before .before .before .before .before .node-at .result) (c .before .before .before .before .before .before .before .before .before .before .before .before .before .before .before .if1 .left) (c .before .before .before .before .before .before .before .before .before .before .before .before .before .before .node-at .ensures)) (((c .before .before .before .before .before .before .before .before .before .before .before .before .meet .ensures) .0 (λ j. formatAt (e .args .g) (e .args .nodes .now) (e .args .down .now) (e .args .up .now) j) (λ j. sureAt (e .args .g) (e .args .nodes .now) (e .args .down .now) (e .args .up .now) j) (membersFrom (λ j. formatAt (e .args .g) (e .args .nodes .now) (e .args .down .now) (e .args .up .now) j) (e .args .nodes .now) ((e .args .k) + 1) ((e .args .n) - 1)) (e .args .y) (bitOf (e .args .src .now)) ((sure-members (e .args .nodes .now) (e .args .down .now) (e .args .up .now) (λ j. formatAt (e .args .g) (e .args .nodes .now) (e .args .down .now) (e .args .up .now) j) (λ j. sureAt (e .args .g) (e .args .nodes .now) (e .args .down .now) (e .args .up .now) j) (e .args .k) (e .args .n) (c .before .before .before .before .before .before .before .before .before .before .before .before .before .before .node-at .result) (c .before .before .before .before .before .before .before .before .before .before .before .before .before .before .before .if1 .left) (c .before .before .before .before .before .before .before .before .before .before .before .before .before .before .node-at .ensures) ((e .pre .1) .5)) .0)) .with (c .before .before .before .before .before .before .before .before .if2 .taken) _ _ _ _ (c .before .before .before .before .before .before .write-node .ensures) (c .before .before .write-members .ensures))
 
--- src/node.rt:186:9
-write-members-returns-2 : (t : ℕ) → write-members-lts.Need-returns-2 (
-  node-at-reads.Asked,
-  node-at-reads.Learnt,
-  meet-reads.Asked,
-  meet-reads.Learnt,
-  write-node-below t,
-  write-node.Post,
-  write-members-below t,
-  write-members.Post,
-) (write-members-at t) write-members.Post
-write-members-returns-2 t c = members-as _ _ _ _ _ _ _ _ _ _ _ (members-step (c .before .before .before .before .before .before .before .before .before .before .before .before .before .before .before .before .before .before .before .before .before .before .args .nodes .now) (c .before .before .before .before .before .before .before .before .before .before .before .before .before .before .before .before .before .before .before .before .before .before .args .down .now) (c .before .before .before .before .before .before .before .before .before .before .before .before .before .before .before .before .before .before .before .before .before .before .args .up .now) (λ j. formatAt (c .before .before .before .before .before .before .before .before .before .before .before .before .before .before .before .before .before .before .before .before .before .before .args .g) (c .before .before .before .before .before .before .before .before .before .before .before .before .before .before .before .before .before .before .before .before .before .before .args .nodes .now) (c .before .before .before .before .before .before .before .before .before .before .before .before .before .before .before .before .before .before .before .before .before .before .args .down .now) (c .before .before .before .before .before .before .before .before .before .before .before .before .before .before .before .before .before .before .before .before .before .before .args .up .now) j) (c .before .before .before .before .before .before .before .before .before .before .before .before .before .before .before .before .before .before .before .before .before .before .args .k) (c .before .before .before .before .before .before .before .before .before .before .before .before .before .before .before .before .before .before .before .before .before .before .args .n) (c .before .before .before .before .before .before .before .before .before .before .before .before .before .before .node-at .result) (c .before .before .before .before .before .before .before .before .before .before .before .before .before .before .before .if1 .left) (c .before .before .before .before .before .before .before .before .before .before .before .before .before .before .node-at .ensures)) (((c .before .before .before .before .before .before .before .before .before .before .before .before .meet .ensures) .0 (λ j. formatAt (c .before .before .before .before .before .before .before .before .before .before .before .before .before .before .before .before .before .before .before .before .before .before .args .g) (c .before .before .before .before .before .before .before .before .before .before .before .before .before .before .before .before .before .before .before .before .before .before .args .nodes .now) (c .before .before .before .before .before .before .before .before .before .before .before .before .before .before .before .before .before .before .before .before .before .before .args .down .now) (c .before .before .before .before .before .before .before .before .before .before .before .before .before .before .before .before .before .before .before .before .before .before .args .up .now) j) (λ j. sureAt (c .before .before .before .before .before .before .before .before .before .before .before .before .before .before .before .before .before .before .before .before .before .before .args .g) (c .before .before .before .before .before .before .before .before .before .before .before .before .before .before .before .before .before .before .before .before .before .before .args .nodes .now) (c .before .before .before .before .before .before .before .before .before .before .before .before .before .before .before .before .before .before .before .before .before .before .args .down .now) (c .before .before .before .before .before .before .before .before .before .before .before .before .before .before .before .before .before .before .before .before .before .before .args .up .now) j) (membersFrom (λ j. formatAt (c .before .before .before .before .before .before .before .before .before .before .before .before .before .before .before .before .before .before .before .before .before .before .args .g) (c .before .before .before .before .before .before .before .before .before .before .before .before .before .before .before .before .before .before .before .before .before .before .args .nodes .now) (c .before .before .before .before .before .before .before .before .before .before .before .before .before .before .before .before .before .before .before .before .before .before .args .down .now) (c .before .before .before .before .before .before .before .before .before .before .before .before .before .before .before .before .before .before .before .before .before .before .args .up .now) j) (c .before .before .before .before .before .before .before .before .before .before .before .before .before .before .before .before .before .before .before .before .before .before .args .nodes .now) ((c .before .before .before .before .before .before .before .before .before .before .before .before .before .before .before .before .before .before .before .before .before .before .args .k) + 1) ((c .before .before .before .before .before .before .before .before .before .before .before .before .before .before .before .before .before .before .before .before .before .before .args .n) - 1)) (c .before .before .before .before .before .before .before .before .before .before .before .before .before .before .before .before .before .before .before .before .before .before .args .y) (bitOf (c .before .before .before .before .before .before .before .before .before .before .before .before .before .before .before .before .before .before .before .before .before .before .args .src .now)) ((sure-members (c .before .before .before .before .before .before .before .before .before .before .before .before .before .before .before .before .before .before .before .before .before .before .args .nodes .now) (c .before .before .before .before .before .before .before .before .before .before .before .before .before .before .before .before .before .before .before .before .before .before .args .down .now) (c .before .before .before .before .before .before .before .before .before .before .before .before .before .before .before .before .before .before .before .before .before .before .args .up .now) (λ j. formatAt (c .before .before .before .before .before .before .before .before .before .before .before .before .before .before .before .before .before .before .before .before .before .before .args .g) (c .before .before .before .before .before .before .before .before .before .before .before .before .before .before .before .before .before .before .before .before .before .before .args .nodes .now) (c .before .before .before .before .before .before .before .before .before .before .before .before .before .before .before .before .before .before .before .before .before .before .args .down .now) (c .before .before .before .before .before .before .before .before .before .before .before .before .before .before .before .before .before .before .before .before .before .before .args .up .now) j) (λ j. sureAt (c .before .before .before .before .before .before .before .before .before .before .before .before .before .before .before .before .before .before .before .before .before .before .args .g) (c .before .before .before .before .before .before .before .before .before .before .before .before .before .before .before .before .before .before .before .before .before .before .args .nodes .now) (c .before .before .before .before .before .before .before .before .before .before .before .before .before .before .before .before .before .before .before .before .before .before .args .down .now) (c .before .before .before .before .before .before .before .before .before .before .before .before .before .before .before .before .before .before .before .before .before .before .args .up .now) j) (c .before .before .before .before .before .before .before .before .before .before .before .before .before .before .before .before .before .before .before .before .before .before .args .k) (c .before .before .before .before .before .before .before .before .before .before .before .before .before .before .before .before .before .before .before .before .before .before .args .n) (c .before .before .before .before .before .before .before .before .before .before .before .before .before .before .node-at .result) (c .before .before .before .before .before .before .before .before .before .before .before .before .before .before .before .if1 .left) (c .before .before .before .before .before .before .before .before .before .before .before .before .before .before .node-at .ensures) ((c .before .before .before .before .before .before .before .before .before .before .before .before .before .before .before .before .before .before .before .before .before .before .pre .1) .5)) .0)) .with (c .before .before .before .before .before .before .before .before .if2 .taken) _ _ _ _ (c .before .before .before .before .before .before .write-node .ensures) (c .before .before .write-members .ensures))
-
--- src/node.rt:211:9
-write-members-add-write-members-2 : (t : ℕ) → write-members-lts.Need-add-write-members-2 (
-  node-at-reads.Asked,
-  node-at-reads.Learnt,
-  meet-reads.Asked,
-  meet-reads.Learnt,
-  write-node-below t,
-  write-node.Post,
-  write-members-below t,
-  write-members.Post,
-) (write-members-at t) write-members.Post
+write-members-add-write-members-2 : (t : ℕ) → write-members-lts.Need-add-write-members-2 (node-at-reads.Asked, node-at-reads.Learnt, meet-reads.Asked, meet-reads.Learnt, write-node-below t, write-node.Post, write-members-below t, write-members.Post) (write-members-at t) write-members.Post
 write-members-add-write-members-2 t c = omega (arith, (c .before .before .before .before .before .before .before .before .before .before .before .before .before .before .before .pre .1) .2)
 
--- src/node.rt:212:9
-write-members-sub-write-members-2 : (t : ℕ) → write-members-lts.Need-sub-write-members-2 (
-  node-at-reads.Asked,
-  node-at-reads.Learnt,
-  meet-reads.Asked,
-  meet-reads.Learnt,
-  write-node-below t,
-  write-node.Post,
-  write-members-below t,
-  write-members.Post,
-) (write-members-at t) write-members.Post
+write-members-sub-write-members-2 : (t : ℕ) → write-members-lts.Need-sub-write-members-2 (node-at-reads.Asked, node-at-reads.Learnt, meet-reads.Asked, meet-reads.Learnt, write-node-below t, write-node.Post, write-members-below t, write-members.Post) (write-members-at t) write-members.Post
 write-members-sub-write-members-2 t c = omega (arith, (c .before .before .before .before .before .before .before .before .if1 .left))
 
--- src/node.rt:203:5
-write-members-write-members-requires-2 : (t : ℕ) → write-members-lts.Need-write-members-requires-2 (
-  node-at-reads.Asked,
-  node-at-reads.Learnt,
-  meet-reads.Asked,
-  meet-reads.Learnt,
-  write-node-below t,
-  write-node.Post,
-  write-members-below t,
-  write-members.Post,
-) (write-members-at t) write-members.Post
-write-members-write-members-requires-2 t c κs = (omega (arith, (c .before .before .before .before .before .before .before .before .before .before .before .before .before .before .before .pre .0), (c .before .before .before .before .before .before .before .before .if1 .left)), (((c .before .before .before .before .before .before .before .before .before .before .before .before .before .before .before .pre .1) .0), (c .before .before .before .before .before .before .before .before .before .before .before .before .before .before .before .pre .1) .1, omega (arith, (c .before .before .before .before .before .before .before .before .before .before .before .before .before .before .before .pre .1) .2, (c .before .before .before .before .before .before .before .before .if1 .left)), omega (arith, (c .before .before .before .before .before .before .before .before .before .before .before .before .before .before .before .pre .1) .3), omega (arith, (c .before .before .before .before .before .before .before .before .before .before .before .before .before .before .before .pre .1) .4, (c .before .before .before .before .before .meet .ensures) .1, (c .before .before .before .before .before .before .before .before .if1 .left)), (sure-members (c .before .before .before .before .before .before .before .before .before .before .before .before .before .before .before .args .nodes .now) (c .before .before .before .before .before .before .before .before .before .before .before .before .before .before .before .args .down .now) (c .before .before .before .before .before .before .before .before .before .before .before .before .before .before .before .args .up .now) (λ j. formatAt (c .before .before .before .before .before .before .before .before .before .before .before .before .before .before .before .args .g) (c .before .before .before .before .before .before .before .before .before .before .before .before .before .before .before .args .nodes .now) (c .before .before .before .before .before .before .before .before .before .before .before .before .before .before .before .args .down .now) (c .before .before .before .before .before .before .before .before .before .before .before .before .before .before .before .args .up .now) j) (λ j. sureAt (c .before .before .before .before .before .before .before .before .before .before .before .before .before .before .before .args .g) (c .before .before .before .before .before .before .before .before .before .before .before .before .before .before .before .args .nodes .now) (c .before .before .before .before .before .before .before .before .before .before .before .before .before .before .before .args .down .now) (c .before .before .before .before .before .before .before .before .before .before .before .before .before .before .before .args .up .now) j) (c .before .before .before .before .before .before .before .before .before .before .before .before .before .before .before .args .k) (c .before .before .before .before .before .before .before .before .before .before .before .before .before .before .before .args .n) (c .before .before .before .before .before .before .before .node-at .result) (c .before .before .before .before .before .before .before .before .if1 .left) (c .before .before .before .before .before .before .before .node-at .ensures) ((c .before .before .before .before .before .before .before .before .before .before .before .before .before .before .before .pre .1) .5)) .1))
+write-members-write-members-requires-2 : (t : ℕ) → write-members-lts.Need-write-members-requires-2 (node-at-reads.Asked, node-at-reads.Learnt, meet-reads.Asked, meet-reads.Learnt, write-node-below t, write-node.Post, write-members-below t, write-members.Post) (write-members-at t) write-members.Post
+write-members-write-members-requires-2 t c κs =
+    let e = c .before .before .before .before .before .before .before .before .before .before .before .before .before .before .before in
+    (omega (arith, (e .pre .0), (c .before .before .before .before .before .before .before .before .if1 .left)), (((e .pre .1) .0), (e .pre .1) .1, omega (arith, (e .pre .1) .2, (c .before .before .before .before .before .before .before .before .if1 .left)), omega (arith, (e .pre .1) .3), omega (arith, (e .pre .1) .4, (c .before .before .before .before .before .meet .ensures) .1, (c .before .before .before .before .before .before .before .before .if1 .left)), (sure-members (e .args .nodes .now) (e .args .down .now) (e .args .up .now) (λ j. formatAt (e .args .g) (e .args .nodes .now) (e .args .down .now) (e .args .up .now) j) (λ j. sureAt (e .args .g) (e .args .nodes .now) (e .args .down .now) (e .args .up .now) j) (e .args .k) (e .args .n) (c .before .before .before .before .before .before .before .node-at .result) (c .before .before .before .before .before .before .before .before .if1 .left) (c .before .before .before .before .before .before .before .node-at .ensures) ((e .pre .1) .5)) .1))
 
--- src/node.rt:158:1
-write-members-same-length-2 : (t : ℕ) → write-members-lts.Need-same-length-2 (
-  node-at-reads.Asked,
-  node-at-reads.Learnt,
-  meet-reads.Asked,
-  meet-reads.Learnt,
-  write-node-below t,
-  write-node.Post,
-  write-members-below t,
-  write-members.Post,
-) (write-members-at t) write-members.Post
-write-members-same-length-2 t c = search needs
+write-members-returns-3 : (t : ℕ) → write-members-lts.Need-returns-3 (node-at-reads.Asked, node-at-reads.Learnt, meet-reads.Asked, meet-reads.Learnt, write-node-below t, write-node.Post, write-members-below t, write-members.Post) (write-members-at t) write-members.Post
+write-members-returns-3 t c =
+    let e = c .before .before .before .before .before .before .before .before .before .before .before .before .before .before .before .before .before .before in
+    members-as _ _ _ _ _ _ _ _ _ _ _ (members-step (e .args .nodes .now) (e .args .down .now) (e .args .up .now) (λ j. formatAt (e .args .g) (e .args .nodes .now) (e .args .down .now) (e .args .up .now) j) (e .args .k) (e .args .n) (c .before .before .before .before .before .before .before .before .before .before .node-at .result) (c .before .before .before .before .before .before .before .before .before .before .before .if1 .left) (c .before .before .before .before .before .before .before .before .before .before .node-at .ensures)) (((c .before .before .before .before .before .before .before .before .meet .ensures) .0 (λ j. formatAt (e .args .g) (e .args .nodes .now) (e .args .down .now) (e .args .up .now) j) (λ j. sureAt (e .args .g) (e .args .nodes .now) (e .args .down .now) (e .args .up .now) j) (membersFrom (λ j. formatAt (e .args .g) (e .args .nodes .now) (e .args .down .now) (e .args .up .now) j) (e .args .nodes .now) ((e .args .k) + 1) ((e .args .n) - 1)) (e .args .y) (bitOf (e .args .src .now)) ((sure-members (e .args .nodes .now) (e .args .down .now) (e .args .up .now) (λ j. formatAt (e .args .g) (e .args .nodes .now) (e .args .down .now) (e .args .up .now) j) (λ j. sureAt (e .args .g) (e .args .nodes .now) (e .args .down .now) (e .args .up .now) j) (e .args .k) (e .args .n) (c .before .before .before .before .before .before .before .before .before .before .node-at .result) (c .before .before .before .before .before .before .before .before .before .before .before .if1 .left) (c .before .before .before .before .before .before .before .before .before .before .node-at .ensures) ((e .pre .1) .5)) .0)) .without (c .before .before .before .before .if2 .left) _ _ (c .before .before .write-members2 .ensures))
 
--- src/node.rt:158:1
-write-members-returns-3 : (t : ℕ) → write-members-lts.Need-returns-3 (
-  node-at-reads.Asked,
-  node-at-reads.Learnt,
-  meet-reads.Asked,
-  meet-reads.Learnt,
-  write-node-below t,
-  write-node.Post,
-  write-members-below t,
-  write-members.Post,
-) (write-members-at t) write-members.Post
-write-members-returns-3 t c = members-as _ _ _ _ _ _ _ _ _ _ _ (members-step (c .before .before .before .before .before .before .before .before .before .before .before .before .before .before .before .before .before .before .args .nodes .now) (c .before .before .before .before .before .before .before .before .before .before .before .before .before .before .before .before .before .before .args .down .now) (c .before .before .before .before .before .before .before .before .before .before .before .before .before .before .before .before .before .before .args .up .now) (λ j. formatAt (c .before .before .before .before .before .before .before .before .before .before .before .before .before .before .before .before .before .before .args .g) (c .before .before .before .before .before .before .before .before .before .before .before .before .before .before .before .before .before .before .args .nodes .now) (c .before .before .before .before .before .before .before .before .before .before .before .before .before .before .before .before .before .before .args .down .now) (c .before .before .before .before .before .before .before .before .before .before .before .before .before .before .before .before .before .before .args .up .now) j) (c .before .before .before .before .before .before .before .before .before .before .before .before .before .before .before .before .before .before .args .k) (c .before .before .before .before .before .before .before .before .before .before .before .before .before .before .before .before .before .before .args .n) (c .before .before .before .before .before .before .before .before .before .before .node-at .result) (c .before .before .before .before .before .before .before .before .before .before .before .if1 .left) (c .before .before .before .before .before .before .before .before .before .before .node-at .ensures)) (((c .before .before .before .before .before .before .before .before .meet .ensures) .0 (λ j. formatAt (c .before .before .before .before .before .before .before .before .before .before .before .before .before .before .before .before .before .before .args .g) (c .before .before .before .before .before .before .before .before .before .before .before .before .before .before .before .before .before .before .args .nodes .now) (c .before .before .before .before .before .before .before .before .before .before .before .before .before .before .before .before .before .before .args .down .now) (c .before .before .before .before .before .before .before .before .before .before .before .before .before .before .before .before .before .before .args .up .now) j) (λ j. sureAt (c .before .before .before .before .before .before .before .before .before .before .before .before .before .before .before .before .before .before .args .g) (c .before .before .before .before .before .before .before .before .before .before .before .before .before .before .before .before .before .before .args .nodes .now) (c .before .before .before .before .before .before .before .before .before .before .before .before .before .before .before .before .before .before .args .down .now) (c .before .before .before .before .before .before .before .before .before .before .before .before .before .before .before .before .before .before .args .up .now) j) (membersFrom (λ j. formatAt (c .before .before .before .before .before .before .before .before .before .before .before .before .before .before .before .before .before .before .args .g) (c .before .before .before .before .before .before .before .before .before .before .before .before .before .before .before .before .before .before .args .nodes .now) (c .before .before .before .before .before .before .before .before .before .before .before .before .before .before .before .before .before .before .args .down .now) (c .before .before .before .before .before .before .before .before .before .before .before .before .before .before .before .before .before .before .args .up .now) j) (c .before .before .before .before .before .before .before .before .before .before .before .before .before .before .before .before .before .before .args .nodes .now) ((c .before .before .before .before .before .before .before .before .before .before .before .before .before .before .before .before .before .before .args .k) + 1) ((c .before .before .before .before .before .before .before .before .before .before .before .before .before .before .before .before .before .before .args .n) - 1)) (c .before .before .before .before .before .before .before .before .before .before .before .before .before .before .before .before .before .before .args .y) (bitOf (c .before .before .before .before .before .before .before .before .before .before .before .before .before .before .before .before .before .before .args .src .now)) ((sure-members (c .before .before .before .before .before .before .before .before .before .before .before .before .before .before .before .before .before .before .args .nodes .now) (c .before .before .before .before .before .before .before .before .before .before .before .before .before .before .before .before .before .before .args .down .now) (c .before .before .before .before .before .before .before .before .before .before .before .before .before .before .before .before .before .before .args .up .now) (λ j. formatAt (c .before .before .before .before .before .before .before .before .before .before .before .before .before .before .before .before .before .before .args .g) (c .before .before .before .before .before .before .before .before .before .before .before .before .before .before .before .before .before .before .args .nodes .now) (c .before .before .before .before .before .before .before .before .before .before .before .before .before .before .before .before .before .before .args .down .now) (c .before .before .before .before .before .before .before .before .before .before .before .before .before .before .before .before .before .before .args .up .now) j) (λ j. sureAt (c .before .before .before .before .before .before .before .before .before .before .before .before .before .before .before .before .before .before .args .g) (c .before .before .before .before .before .before .before .before .before .before .before .before .before .before .before .before .before .before .args .nodes .now) (c .before .before .before .before .before .before .before .before .before .before .before .before .before .before .before .before .before .before .args .down .now) (c .before .before .before .before .before .before .before .before .before .before .before .before .before .before .before .before .before .before .args .up .now) j) (c .before .before .before .before .before .before .before .before .before .before .before .before .before .before .before .before .before .before .args .k) (c .before .before .before .before .before .before .before .before .before .before .before .before .before .before .before .before .before .before .args .n) (c .before .before .before .before .before .before .before .before .before .before .node-at .result) (c .before .before .before .before .before .before .before .before .before .before .before .if1 .left) (c .before .before .before .before .before .before .before .before .before .before .node-at .ensures) ((c .before .before .before .before .before .before .before .before .before .before .before .before .before .before .before .before .before .before .pre .1) .5)) .0)) .without (c .before .before .before .before .if2 .left) _ _ (c .before .before .write-members2 .ensures))
+write-node-returns : (t : ℕ) → write-node-lts.Need-returns (refuse-reads.Asked, refuse-reads.Learnt, node-at-reads.Asked, node-at-reads.Learnt, write-leaf-reads.Asked, write-leaf-reads.Learnt, write-sequence-below t, write-sequence.Post, write-list-below t, write-list.Post, write-inner-below t, write-inner.Post, lead-reads.Asked, lead-reads.Learnt, write-node-below t, write-node.Post) (write-node-at t) write-node.Post
+write-node-returns t c =
+    let e = c .before .before .before .before .before .before .before .before in
+    part-as _ _ _ _ _ _ _ _ _ _ (format-none (e .args .nodes .now) (e .args .down .now) (e .args .up .now) (e .args .depth) (e .args .k) (c .before .if1 .taken)) (no-part _ _ _ _ _ _ _ _ (c .refuse .ensures))
 
--- src/node.rt:54:9
-write-node-refuse-requires : (t : ℕ) → write-node-lts.Need-refuse-requires (
-  refuse-reads.Asked,
-  refuse-reads.Learnt,
-  node-at-reads.Asked,
-  node-at-reads.Learnt,
-  write-leaf-reads.Asked,
-  write-leaf-reads.Learnt,
-  write-sequence-below t,
-  write-sequence.Post,
-  write-list-below t,
-  write-list.Post,
-  write-inner-below t,
-  write-inner.Post,
-  lead-reads.Asked,
-  lead-reads.Learnt,
-  write-node-below t,
-  write-node.Post,
-) (write-node-at t) write-node.Post
-write-node-refuse-requires t c κs = search needs
-
--- src/node.rt:54:9
-write-node-returns : (t : ℕ) → write-node-lts.Need-returns (
-  refuse-reads.Asked,
-  refuse-reads.Learnt,
-  node-at-reads.Asked,
-  node-at-reads.Learnt,
-  write-leaf-reads.Asked,
-  write-leaf-reads.Learnt,
-  write-sequence-below t,
-  write-sequence.Post,
-  write-list-below t,
-  write-list.Post,
-  write-inner-below t,
-  write-inner.Post,
-  lead-reads.Asked,
-  lead-reads.Learnt,
-  write-node-below t,
-  write-node.Post,
-) (write-node-at t) write-node.Post
-write-node-returns t c = part-as _ _ _ _ _ _ _ _ _ _ (format-none (c .before .before .before .before .before .before .before .before .args .nodes .now) (c .before .before .before .before .before .before .before .before .args .down .now) (c .before .before .before .before .before .before .before .before .args .up .now) (c .before .before .before .before .before .before .before .before .args .depth) (c .before .before .before .before .before .before .before .before .args .k) (c .before .if1 .taken)) (no-part _ _ _ _ _ _ _ _ (c .refuse .ensures))
-
--- src/node.rt:56:13
-write-node-sub-g : (t : ℕ) → write-node-lts.Need-sub-g (
-  refuse-reads.Asked,
-  refuse-reads.Learnt,
-  node-at-reads.Asked,
-  node-at-reads.Learnt,
-  write-leaf-reads.Asked,
-  write-leaf-reads.Learnt,
-  write-sequence-below t,
-  write-sequence.Post,
-  write-list-below t,
-  write-list.Post,
-  write-inner-below t,
-  write-inner.Post,
-  lead-reads.Asked,
-  lead-reads.Learnt,
-  write-node-below t,
-  write-node.Post,
-) (write-node-at t) write-node.Post
+write-node-sub-g : (t : ℕ) → write-node-lts.Need-sub-g (refuse-reads.Asked, refuse-reads.Learnt, node-at-reads.Asked, node-at-reads.Learnt, write-leaf-reads.Asked, write-leaf-reads.Learnt, write-sequence-below t, write-sequence.Post, write-list-below t, write-list.Post, write-inner-below t, write-inner.Post, lead-reads.Asked, lead-reads.Learnt, write-node-below t, write-node.Post) (write-node-at t) write-node.Post
 write-node-sub-g t c = omega (arith, (c .if1 .left))
 
--- src/node.rt:57:9
-write-node-node-at-requires : (t : ℕ) → write-node-lts.Need-node-at-requires (
-  refuse-reads.Asked,
-  refuse-reads.Learnt,
-  node-at-reads.Asked,
-  node-at-reads.Learnt,
-  write-leaf-reads.Asked,
-  write-leaf-reads.Learnt,
-  write-sequence-below t,
-  write-sequence.Post,
-  write-list-below t,
-  write-list.Post,
-  write-inner-below t,
-  write-inner.Post,
-  lead-reads.Asked,
-  lead-reads.Learnt,
-  write-node-below t,
-  write-node.Post,
-) (write-node-at t) write-node.Post
+write-node-node-at-requires : (t : ℕ) → write-node-lts.Need-node-at-requires (refuse-reads.Asked, refuse-reads.Learnt, node-at-reads.Asked, node-at-reads.Learnt, write-leaf-reads.Asked, write-leaf-reads.Learnt, write-sequence-below t, write-sequence.Post, write-list-below t, write-list.Post, write-inner-below t, write-inner.Post, lead-reads.Asked, lead-reads.Learnt, write-node-below t, write-node.Post) (write-node-at t) write-node.Post
 write-node-node-at-requires t c κs = ((c .before .before .before .before .before .before .before .pre .1) .0) .nodes
 
--- src/node.rt:64:9
-write-node-write-leaf-requires : (t : ℕ) → write-node-lts.Need-write-leaf-requires (
-  refuse-reads.Asked,
-  refuse-reads.Learnt,
-  node-at-reads.Asked,
-  node-at-reads.Learnt,
-  write-leaf-reads.Asked,
-  write-leaf-reads.Learnt,
-  write-sequence-below t,
-  write-sequence.Post,
-  write-list-below t,
-  write-list.Post,
-  write-inner-below t,
-  write-inner.Post,
-  lead-reads.Asked,
-  lead-reads.Learnt,
-  write-node-below t,
-  write-node.Post,
-) (write-node-at t) write-node.Post
-write-node-write-leaf-requires t c κs = (((c .before .before .before .before .before .before .before .before .before .before .pre .1) .0) .list, (c .before .if2 .taken), leaf-sure (λ j. formatAt ((c .before .before .before .before .before .before .before .before .before .before .args .depth) - 1) (c .before .before .before .before .before .before .before .before .before .before .args .nodes .now) (c .before .before .before .before .before .before .before .before .before .before .args .down .now) (c .before .before .before .before .before .before .before .before .before .before .args .up .now) j) (λ j. sureAt ((c .before .before .before .before .before .before .before .before .before .before .args .depth) - 1) (c .before .before .before .before .before .before .before .before .before .before .args .nodes .now) (c .before .before .before .before .before .before .before .before .before .before .args .down .now) (c .before .before .before .before .before .before .before .before .before .before .args .up .now) j) (c .before .before .before .before .before .before .before .before .before .before .args .nodes .now) _ _ _ _ _ _ (c .before .if2 .taken) (sure-step (c .before .before .before .before .before .before .before .before .before .before .args .nodes .now) (c .before .before .before .before .before .before .before .before .before .before .args .down .now) (c .before .before .before .before .before .before .before .before .before .before .args .up .now) (c .before .before .before .before .before .before .before .before .before .before .args .depth) (c .before .before .before .before .before .before .before .before .before .before .args .k) (c .before .before .node-at .result) (c .before .before .before .if1 .left) (c .before .before .node-at .ensures) ((c .before .before .before .before .before .before .before .before .before .before .pre .1) .2)))
+write-node-write-leaf-requires : (t : ℕ) → write-node-lts.Need-write-leaf-requires (refuse-reads.Asked, refuse-reads.Learnt, node-at-reads.Asked, node-at-reads.Learnt, write-leaf-reads.Asked, write-leaf-reads.Learnt, write-sequence-below t, write-sequence.Post, write-list-below t, write-list.Post, write-inner-below t, write-inner.Post, lead-reads.Asked, lead-reads.Learnt, write-node-below t, write-node.Post) (write-node-at t) write-node.Post
+write-node-write-leaf-requires t c κs =
+    let e = c .before .before .before .before .before .before .before .before .before .before in
+    (((e .pre .1) .0) .list, (c .before .if2 .taken), leaf-sure (λ j. formatAt ((e .args .depth) - 1) (e .args .nodes .now) (e .args .down .now) (e .args .up .now) j) (λ j. sureAt ((e .args .depth) - 1) (e .args .nodes .now) (e .args .down .now) (e .args .up .now) j) (e .args .nodes .now) _ _ _ _ _ _ (c .before .if2 .taken) (sure-step (e .args .nodes .now) (e .args .down .now) (e .args .up .now) (e .args .depth) (e .args .k) (c .before .before .node-at .result) (c .before .before .before .if1 .left) (c .before .before .node-at .ensures) ((e .pre .1) .2)))
 
--- src/node.rt:64:9
-write-node-same-length : (t : ℕ) → write-node-lts.Need-same-length (
-  refuse-reads.Asked,
-  refuse-reads.Learnt,
-  node-at-reads.Asked,
-  node-at-reads.Learnt,
-  write-leaf-reads.Asked,
-  write-leaf-reads.Learnt,
-  write-sequence-below t,
-  write-sequence.Post,
-  write-list-below t,
-  write-list.Post,
-  write-inner-below t,
-  write-inner.Post,
-  lead-reads.Asked,
-  lead-reads.Learnt,
-  write-node-below t,
-  write-node.Post,
-) (write-node-at t) write-node.Post
-write-node-same-length t c = search needs
+write-node-returns-2 : (t : ℕ) → write-node-lts.Need-returns-2 (refuse-reads.Asked, refuse-reads.Learnt, node-at-reads.Asked, node-at-reads.Learnt, write-leaf-reads.Asked, write-leaf-reads.Learnt, write-sequence-below t, write-sequence.Post, write-list-below t, write-list.Post, write-inner-below t, write-inner.Post, lead-reads.Asked, lead-reads.Learnt, write-node-below t, write-node.Post) (write-node-at t) write-node.Post
+write-node-returns-2 t c =
+    let e = c .before .before .before .before .before .before .before .before .before .before .before .before .before in
+    part-as _ _ _ _ _ _ _ _ _ _ (format-step (e .args .nodes .now) (e .args .down .now) (e .args .up .now) (e .args .depth) (e .args .k) (c .before .before .before .before .before .node-at .result) (c .before .before .before .before .before .before .if1 .left) (c .before .before .before .before .before .node-at .ensures)) ((c .before .before .write-leaf .ensures) (λ j. formatAt ((e .args .depth) - 1) (e .args .nodes .now) (e .args .down .now) (e .args .up .now) j) (e .args .nodes .now) (e .args .down .now) (e .args .up .now) (e .args .y))
 
--- src/node.rt:64:9
-write-node-returns-2 : (t : ℕ) → write-node-lts.Need-returns-2 (
-  refuse-reads.Asked,
-  refuse-reads.Learnt,
-  node-at-reads.Asked,
-  node-at-reads.Learnt,
-  write-leaf-reads.Asked,
-  write-leaf-reads.Learnt,
-  write-sequence-below t,
-  write-sequence.Post,
-  write-list-below t,
-  write-list.Post,
-  write-inner-below t,
-  write-inner.Post,
-  lead-reads.Asked,
-  lead-reads.Learnt,
-  write-node-below t,
-  write-node.Post,
-) (write-node-at t) write-node.Post
-write-node-returns-2 t c = part-as _ _ _ _ _ _ _ _ _ _ (format-step (c .before .before .before .before .before .before .before .before .before .before .before .before .before .args .nodes .now) (c .before .before .before .before .before .before .before .before .before .before .before .before .before .args .down .now) (c .before .before .before .before .before .before .before .before .before .before .before .before .before .args .up .now) (c .before .before .before .before .before .before .before .before .before .before .before .before .before .args .depth) (c .before .before .before .before .before .before .before .before .before .before .before .before .before .args .k) (c .before .before .before .before .before .node-at .result) (c .before .before .before .before .before .before .if1 .left) (c .before .before .before .before .before .node-at .ensures)) ((c .before .before .write-leaf .ensures) (λ j. formatAt ((c .before .before .before .before .before .before .before .before .before .before .before .before .before .args .depth) - 1) (c .before .before .before .before .before .before .before .before .before .before .before .before .before .args .nodes .now) (c .before .before .before .before .before .before .before .before .before .before .before .before .before .args .down .now) (c .before .before .before .before .before .before .before .before .before .before .before .before .before .args .up .now) j) (c .before .before .before .before .before .before .before .before .before .before .before .before .before .args .nodes .now) (c .before .before .before .before .before .before .before .before .before .before .before .before .before .args .down .now) (c .before .before .before .before .before .before .before .before .before .before .before .before .before .args .up .now) (c .before .before .before .before .before .before .before .before .before .before .before .before .before .args .y))
+write-node-returns-3 : (t : ℕ) → write-node-lts.Need-returns-3 (refuse-reads.Asked, refuse-reads.Learnt, node-at-reads.Asked, node-at-reads.Learnt, write-leaf-reads.Asked, write-leaf-reads.Learnt, write-sequence-below t, write-sequence.Post, write-list-below t, write-list.Post, write-inner-below t, write-inner.Post, lead-reads.Asked, lead-reads.Learnt, write-node-below t, write-node.Post) (write-node-at t) write-node.Post
+write-node-returns-3 t c =
+    let e = c .before .before .before .before .before .before .before .before .before .before .before in
+    part-as _ _ _ _ _ _ _ _ _ _ (format-step (e .args .nodes .now) (e .args .down .now) (e .args .up .now) (e .args .depth) (e .args .k) (c .before .before .before .node-at .result) (c .before .before .before .before .if1 .left) (c .before .before .before .node-at .ensures)) (hollow-part (λ j. formatAt ((e .args .depth) - 1) (e .args .nodes .now) (e .args .down .now) (e .args .up .now) j) (e .args .nodes .now) (e .args .down .now) (e .args .up .now) _ _ _ _ _ _ _ _ _ _ _ _ _ _ (c .before .if3 .taken) (c .refuse2 .ensures))
 
--- src/node.rt:67:9
-write-node-refuse-requires-2 : (t : ℕ) → write-node-lts.Need-refuse-requires-2 (
-  refuse-reads.Asked,
-  refuse-reads.Learnt,
-  node-at-reads.Asked,
-  node-at-reads.Learnt,
-  write-leaf-reads.Asked,
-  write-leaf-reads.Learnt,
-  write-sequence-below t,
-  write-sequence.Post,
-  write-list-below t,
-  write-list.Post,
-  write-inner-below t,
-  write-inner.Post,
-  lead-reads.Asked,
-  lead-reads.Learnt,
-  write-node-below t,
-  write-node.Post,
-) (write-node-at t) write-node.Post
-write-node-refuse-requires-2 t c κs = search needs
+write-node-write-sequence-requires : (t : ℕ) → write-node-lts.Need-write-sequence-requires (refuse-reads.Asked, refuse-reads.Learnt, node-at-reads.Asked, node-at-reads.Learnt, write-leaf-reads.Asked, write-leaf-reads.Learnt, write-sequence-below t, write-sequence.Post, write-list-below t, write-list.Post, write-inner-below t, write-inner.Post, lead-reads.Asked, lead-reads.Learnt, write-node-below t, write-node.Post) (write-node-at t) write-node.Post
+write-node-write-sequence-requires t c κs =
+    let e = c .before .before .before .before .before .before .before .before .before .before .before .before in
+    let z = (seq-sure (λ j. formatAt ((e .args .depth) - 1) (e .args .nodes .now) (e .args .down .now) (e .args .up .now) j) (λ j. sureAt ((e .args .depth) - 1) (e .args .nodes .now) (e .args .down .now) (e .args .up .now) j) (e .args .nodes .now) _ _ _ _ _ _ (c .before .if4 .taken) (sure-step (e .args .nodes .now) (e .args .down .now) (e .args .up .now) (e .args .depth) (e .args .k) (c .before .before .before .before .node-at .result) (c .before .before .before .before .before .if1 .left) (c .before .before .before .before .node-at .ensures) ((e .pre .1) .2))) in (omega (arith, (e .pre .0), (c .before .before .before .before .before .if1 .left)), (((e .pre .1) .0), omega (arith, (e .pre .1) .1), z .0, z .1, omega (arith, z .1, z .2, few-flags (λ j. formatAt ((e .args .depth) - 1) (e .args .nodes .now) (e .args .down .now) (e .args .up .now) j) (e .args .nodes .now) (c .before .before .before .before .node-at .result .a) (c .before .before .before .before .node-at .result .b)), z .2, z .3))
 
--- src/node.rt:67:9
-write-node-returns-3 : (t : ℕ) → write-node-lts.Need-returns-3 (
-  refuse-reads.Asked,
-  refuse-reads.Learnt,
-  node-at-reads.Asked,
-  node-at-reads.Learnt,
-  write-leaf-reads.Asked,
-  write-leaf-reads.Learnt,
-  write-sequence-below t,
-  write-sequence.Post,
-  write-list-below t,
-  write-list.Post,
-  write-inner-below t,
-  write-inner.Post,
-  lead-reads.Asked,
-  lead-reads.Learnt,
-  write-node-below t,
-  write-node.Post,
-) (write-node-at t) write-node.Post
-write-node-returns-3 t c = part-as _ _ _ _ _ _ _ _ _ _ (format-step (c .before .before .before .before .before .before .before .before .before .before .before .args .nodes .now) (c .before .before .before .before .before .before .before .before .before .before .before .args .down .now) (c .before .before .before .before .before .before .before .before .before .before .before .args .up .now) (c .before .before .before .before .before .before .before .before .before .before .before .args .depth) (c .before .before .before .before .before .before .before .before .before .before .before .args .k) (c .before .before .before .node-at .result) (c .before .before .before .before .if1 .left) (c .before .before .before .node-at .ensures)) (hollow-part (λ j. formatAt ((c .before .before .before .before .before .before .before .before .before .before .before .args .depth) - 1) (c .before .before .before .before .before .before .before .before .before .before .before .args .nodes .now) (c .before .before .before .before .before .before .before .before .before .before .before .args .down .now) (c .before .before .before .before .before .before .before .before .before .before .before .args .up .now) j) (c .before .before .before .before .before .before .before .before .before .before .before .args .nodes .now) (c .before .before .before .before .before .before .before .before .before .before .before .args .down .now) (c .before .before .before .before .before .before .before .before .before .before .before .args .up .now) _ _ _ _ _ _ _ _ _ _ _ _ _ _ (c .before .if3 .taken) (c .refuse2 .ensures))
+write-node-returns-4 : (t : ℕ) → write-node-lts.Need-returns-4 (refuse-reads.Asked, refuse-reads.Learnt, node-at-reads.Asked, node-at-reads.Learnt, write-leaf-reads.Asked, write-leaf-reads.Learnt, write-sequence-below t, write-sequence.Post, write-list-below t, write-list.Post, write-inner-below t, write-inner.Post, lead-reads.Asked, lead-reads.Learnt, write-node-below t, write-node.Post) (write-node-at t) write-node.Post
+write-node-returns-4 t c =
+    let e = c .before .before .before .before .before .before .before .before .before .before .before .before .before .before .before in
+    part-as _ _ _ _ _ _ _ _ _ _ ((format-step (e .args .nodes .now) (e .args .down .now) (e .args .up .now) (e .args .depth) (e .args .k) (c .before .before .before .before .before .before .before .node-at .result) (c .before .before .before .before .before .before .before .before .if1 .left) (c .before .before .before .before .before .before .before .node-at .ensures)) ∙ seq-format (λ j. formatAt ((e .args .depth) - 1) (e .args .nodes .now) (e .args .down .now) (e .args .up .now) j) (e .args .nodes .now) (e .args .down .now) (e .args .up .now) _ _ _ _ _ _ (c .before .before .before .before .if4 .taken)) (c .before .before .write-sequence .ensures)
 
--- src/node.rt:70:9
-write-node-write-sequence-requires : (t : ℕ) → write-node-lts.Need-write-sequence-requires (
-  refuse-reads.Asked,
-  refuse-reads.Learnt,
-  node-at-reads.Asked,
-  node-at-reads.Learnt,
-  write-leaf-reads.Asked,
-  write-leaf-reads.Learnt,
-  write-sequence-below t,
-  write-sequence.Post,
-  write-list-below t,
-  write-list.Post,
-  write-inner-below t,
-  write-inner.Post,
-  lead-reads.Asked,
-  lead-reads.Learnt,
-  write-node-below t,
-  write-node.Post,
-) (write-node-at t) write-node.Post
-write-node-write-sequence-requires t c κs = let z = (seq-sure (λ j. formatAt ((c .before .before .before .before .before .before .before .before .before .before .before .before .args .depth) - 1) (c .before .before .before .before .before .before .before .before .before .before .before .before .args .nodes .now) (c .before .before .before .before .before .before .before .before .before .before .before .before .args .down .now) (c .before .before .before .before .before .before .before .before .before .before .before .before .args .up .now) j) (λ j. sureAt ((c .before .before .before .before .before .before .before .before .before .before .before .before .args .depth) - 1) (c .before .before .before .before .before .before .before .before .before .before .before .before .args .nodes .now) (c .before .before .before .before .before .before .before .before .before .before .before .before .args .down .now) (c .before .before .before .before .before .before .before .before .before .before .before .before .args .up .now) j) (c .before .before .before .before .before .before .before .before .before .before .before .before .args .nodes .now) _ _ _ _ _ _ (c .before .if4 .taken) (sure-step (c .before .before .before .before .before .before .before .before .before .before .before .before .args .nodes .now) (c .before .before .before .before .before .before .before .before .before .before .before .before .args .down .now) (c .before .before .before .before .before .before .before .before .before .before .before .before .args .up .now) (c .before .before .before .before .before .before .before .before .before .before .before .before .args .depth) (c .before .before .before .before .before .before .before .before .before .before .before .before .args .k) (c .before .before .before .before .node-at .result) (c .before .before .before .before .before .if1 .left) (c .before .before .before .before .node-at .ensures) ((c .before .before .before .before .before .before .before .before .before .before .before .before .pre .1) .2))) in (omega (arith, (c .before .before .before .before .before .before .before .before .before .before .before .before .pre .0), (c .before .before .before .before .before .if1 .left)), (((c .before .before .before .before .before .before .before .before .before .before .before .before .pre .1) .0), omega (arith, (c .before .before .before .before .before .before .before .before .before .before .before .before .pre .1) .1), z .0, z .1, omega (arith, z .1, z .2, few-flags (λ j. formatAt ((c .before .before .before .before .before .before .before .before .before .before .before .before .args .depth) - 1) (c .before .before .before .before .before .before .before .before .before .before .before .before .args .nodes .now) (c .before .before .before .before .before .before .before .before .before .before .before .before .args .down .now) (c .before .before .before .before .before .before .before .before .before .before .before .before .args .up .now) j) (c .before .before .before .before .before .before .before .before .before .before .before .before .args .nodes .now) (c .before .before .before .before .node-at .result .a) (c .before .before .before .before .node-at .result .b)), z .2, z .3))
+write-node-write-sequence-requires-2 : (t : ℕ) → write-node-lts.Need-write-sequence-requires-2 (refuse-reads.Asked, refuse-reads.Learnt, node-at-reads.Asked, node-at-reads.Learnt, write-leaf-reads.Asked, write-leaf-reads.Learnt, write-sequence-below t, write-sequence.Post, write-list-below t, write-list.Post, write-inner-below t, write-inner.Post, lead-reads.Asked, lead-reads.Learnt, write-node-below t, write-node.Post) (write-node-at t) write-node.Post
+write-node-write-sequence-requires-2 t c κs =
+    let e = c .before .before .before .before .before .before .before .before .before .before .before .before .before in
+    let z = (loose-sure (λ j. formatAt ((e .args .depth) - 1) (e .args .nodes .now) (e .args .down .now) (e .args .up .now) j) (λ j. sureAt ((e .args .depth) - 1) (e .args .nodes .now) (e .args .down .now) (e .args .up .now) j) (e .args .nodes .now) _ _ _ _ _ _ (c .before .if5 .taken) (sure-step (e .args .nodes .now) (e .args .down .now) (e .args .up .now) (e .args .depth) (e .args .k) (c .before .before .before .before .before .node-at .result) (c .before .before .before .before .before .before .if1 .left) (c .before .before .before .before .before .node-at .ensures) ((e .pre .1) .2))) in (omega (arith, (e .pre .0), (c .before .before .before .before .before .before .if1 .left)), (((e .pre .1) .0), omega (arith, (e .pre .1) .1), z .0, z .1, omega (arith, z .1, z .2, few-flags (λ j. formatAt ((e .args .depth) - 1) (e .args .nodes .now) (e .args .down .now) (e .args .up .now) j) (e .args .nodes .now) (c .before .before .before .before .before .node-at .result .a) (c .before .before .before .before .before .node-at .result .b)), z .2, z .3))
 
--- src/node.rt:70:9
-write-node-same-length-2 : (t : ℕ) → write-node-lts.Need-same-length-2 (
-  refuse-reads.Asked,
-  refuse-reads.Learnt,
-  node-at-reads.Asked,
-  node-at-reads.Learnt,
-  write-leaf-reads.Asked,
-  write-leaf-reads.Learnt,
-  write-sequence-below t,
-  write-sequence.Post,
-  write-list-below t,
-  write-list.Post,
-  write-inner-below t,
-  write-inner.Post,
-  lead-reads.Asked,
-  lead-reads.Learnt,
-  write-node-below t,
-  write-node.Post,
-) (write-node-at t) write-node.Post
-write-node-same-length-2 t c = search needs
+write-node-returns-5 : (t : ℕ) → write-node-lts.Need-returns-5 (refuse-reads.Asked, refuse-reads.Learnt, node-at-reads.Asked, node-at-reads.Learnt, write-leaf-reads.Asked, write-leaf-reads.Learnt, write-sequence-below t, write-sequence.Post, write-list-below t, write-list.Post, write-inner-below t, write-inner.Post, lead-reads.Asked, lead-reads.Learnt, write-node-below t, write-node.Post) (write-node-at t) write-node.Post
+write-node-returns-5 t c =
+    let e = c .before .before .before .before .before .before .before .before .before .before .before .before .before .before .before .before in
+    part-as _ _ _ _ _ _ _ _ _ _ ((format-step (e .args .nodes .now) (e .args .down .now) (e .args .up .now) (e .args .depth) (e .args .k) (c .before .before .before .before .before .before .before .before .node-at .result) (c .before .before .before .before .before .before .before .before .before .if1 .left) (c .before .before .before .before .before .before .before .before .node-at .ensures)) ∙ loose-format (λ j. formatAt ((e .args .depth) - 1) (e .args .nodes .now) (e .args .down .now) (e .args .up .now) j) (e .args .nodes .now) (e .args .down .now) (e .args .up .now) _ _ _ _ _ _ (c .before .before .before .before .if5 .taken)) (loose-as-seq (membersFrom (λ j. formatAt ((e .args .depth) - 1) (e .args .nodes .now) (e .args .down .now) (e .args .up .now) j) (e .args .nodes .now) (c .before .before .before .before .before .before .before .before .node-at .result .a) (c .before .before .before .before .before .before .before .before .node-at .result .b)) _ _ _ _ _ _ _ _ (c .before .before .write-sequence2 .ensures))
 
--- src/node.rt:70:9
-write-node-returns-4 : (t : ℕ) → write-node-lts.Need-returns-4 (
-  refuse-reads.Asked,
-  refuse-reads.Learnt,
-  node-at-reads.Asked,
-  node-at-reads.Learnt,
-  write-leaf-reads.Asked,
-  write-leaf-reads.Learnt,
-  write-sequence-below t,
-  write-sequence.Post,
-  write-list-below t,
-  write-list.Post,
-  write-inner-below t,
-  write-inner.Post,
-  lead-reads.Asked,
-  lead-reads.Learnt,
-  write-node-below t,
-  write-node.Post,
-) (write-node-at t) write-node.Post
-write-node-returns-4 t c = part-as _ _ _ _ _ _ _ _ _ _ ((format-step (c .before .before .before .before .before .before .before .before .before .before .before .before .before .before .before .args .nodes .now) (c .before .before .before .before .before .before .before .before .before .before .before .before .before .before .before .args .down .now) (c .before .before .before .before .before .before .before .before .before .before .before .before .before .before .before .args .up .now) (c .before .before .before .before .before .before .before .before .before .before .before .before .before .before .before .args .depth) (c .before .before .before .before .before .before .before .before .before .before .before .before .before .before .before .args .k) (c .before .before .before .before .before .before .before .node-at .result) (c .before .before .before .before .before .before .before .before .if1 .left) (c .before .before .before .before .before .before .before .node-at .ensures)) ∙ seq-format (λ j. formatAt ((c .before .before .before .before .before .before .before .before .before .before .before .before .before .before .before .args .depth) - 1) (c .before .before .before .before .before .before .before .before .before .before .before .before .before .before .before .args .nodes .now) (c .before .before .before .before .before .before .before .before .before .before .before .before .before .before .before .args .down .now) (c .before .before .before .before .before .before .before .before .before .before .before .before .before .before .before .args .up .now) j) (c .before .before .before .before .before .before .before .before .before .before .before .before .before .before .before .args .nodes .now) (c .before .before .before .before .before .before .before .before .before .before .before .before .before .before .before .args .down .now) (c .before .before .before .before .before .before .before .before .before .before .before .before .before .before .before .args .up .now) _ _ _ _ _ _ (c .before .before .before .before .if4 .taken)) (c .before .before .write-sequence .ensures)
+write-node-write-list-requires : (t : ℕ) → write-node-lts.Need-write-list-requires (refuse-reads.Asked, refuse-reads.Learnt, node-at-reads.Asked, node-at-reads.Learnt, write-leaf-reads.Asked, write-leaf-reads.Learnt, write-sequence-below t, write-sequence.Post, write-list-below t, write-list.Post, write-inner-below t, write-inner.Post, lead-reads.Asked, lead-reads.Learnt, write-node-below t, write-node.Post) (write-node-at t) write-node.Post
+write-node-write-list-requires t c κs =
+    let e = c .before .before .before .before .before .before .before .before .before .before .before .before .before .before in
+    let z = many-sure (λ j. formatAt ((e .args .depth) - 1) (e .args .nodes .now) (e .args .down .now) (e .args .up .now) j) (λ j. sureAt ((e .args .depth) - 1) (e .args .nodes .now) (e .args .down .now) (e .args .up .now) j) (e .args .nodes .now) _ _ _ _ _ _ (c .before .if6 .taken) (sure-step (e .args .nodes .now) (e .args .down .now) (e .args .up .now) (e .args .depth) (e .args .k) (c .before .before .before .before .before .before .node-at .result) (c .before .before .before .before .before .before .before .if1 .left) (c .before .before .before .before .before .before .node-at .ensures) ((e .pre .1) .2)) in (omega (arith, (e .pre .0), (c .before .before .before .before .before .before .before .if1 .left)), (((e .pre .1) .0), omega (arith, (e .pre .1) .1), z .0, z .1, z .2, z .3))
 
--- src/node.rt:88:9
-write-node-write-sequence-requires-2 : (t : ℕ) → write-node-lts.Need-write-sequence-requires-2 (
-  refuse-reads.Asked,
-  refuse-reads.Learnt,
-  node-at-reads.Asked,
-  node-at-reads.Learnt,
-  write-leaf-reads.Asked,
-  write-leaf-reads.Learnt,
-  write-sequence-below t,
-  write-sequence.Post,
-  write-list-below t,
-  write-list.Post,
-  write-inner-below t,
-  write-inner.Post,
-  lead-reads.Asked,
-  lead-reads.Learnt,
-  write-node-below t,
-  write-node.Post,
-) (write-node-at t) write-node.Post
-write-node-write-sequence-requires-2 t c κs = let z = (loose-sure (λ j. formatAt ((c .before .before .before .before .before .before .before .before .before .before .before .before .before .args .depth) - 1) (c .before .before .before .before .before .before .before .before .before .before .before .before .before .args .nodes .now) (c .before .before .before .before .before .before .before .before .before .before .before .before .before .args .down .now) (c .before .before .before .before .before .before .before .before .before .before .before .before .before .args .up .now) j) (λ j. sureAt ((c .before .before .before .before .before .before .before .before .before .before .before .before .before .args .depth) - 1) (c .before .before .before .before .before .before .before .before .before .before .before .before .before .args .nodes .now) (c .before .before .before .before .before .before .before .before .before .before .before .before .before .args .down .now) (c .before .before .before .before .before .before .before .before .before .before .before .before .before .args .up .now) j) (c .before .before .before .before .before .before .before .before .before .before .before .before .before .args .nodes .now) _ _ _ _ _ _ (c .before .if5 .taken) (sure-step (c .before .before .before .before .before .before .before .before .before .before .before .before .before .args .nodes .now) (c .before .before .before .before .before .before .before .before .before .before .before .before .before .args .down .now) (c .before .before .before .before .before .before .before .before .before .before .before .before .before .args .up .now) (c .before .before .before .before .before .before .before .before .before .before .before .before .before .args .depth) (c .before .before .before .before .before .before .before .before .before .before .before .before .before .args .k) (c .before .before .before .before .before .node-at .result) (c .before .before .before .before .before .before .if1 .left) (c .before .before .before .before .before .node-at .ensures) ((c .before .before .before .before .before .before .before .before .before .before .before .before .before .pre .1) .2))) in (omega (arith, (c .before .before .before .before .before .before .before .before .before .before .before .before .before .pre .0), (c .before .before .before .before .before .before .if1 .left)), (((c .before .before .before .before .before .before .before .before .before .before .before .before .before .pre .1) .0), omega (arith, (c .before .before .before .before .before .before .before .before .before .before .before .before .before .pre .1) .1), z .0, z .1, omega (arith, z .1, z .2, few-flags (λ j. formatAt ((c .before .before .before .before .before .before .before .before .before .before .before .before .before .args .depth) - 1) (c .before .before .before .before .before .before .before .before .before .before .before .before .before .args .nodes .now) (c .before .before .before .before .before .before .before .before .before .before .before .before .before .args .down .now) (c .before .before .before .before .before .before .before .before .before .before .before .before .before .args .up .now) j) (c .before .before .before .before .before .before .before .before .before .before .before .before .before .args .nodes .now) (c .before .before .before .before .before .node-at .result .a) (c .before .before .before .before .before .node-at .result .b)), z .2, z .3))
+write-node-returns-6 : (t : ℕ) → write-node-lts.Need-returns-6 (refuse-reads.Asked, refuse-reads.Learnt, node-at-reads.Asked, node-at-reads.Learnt, write-leaf-reads.Asked, write-leaf-reads.Learnt, write-sequence-below t, write-sequence.Post, write-list-below t, write-list.Post, write-inner-below t, write-inner.Post, lead-reads.Asked, lead-reads.Learnt, write-node-below t, write-node.Post) (write-node-at t) write-node.Post
+write-node-returns-6 t c =
+    let e = c .before .before .before .before .before .before .before .before .before .before .before .before .before .before .before .before .before in
+    part-as _ _ _ _ _ _ _ _ _ _ ((format-step (e .args .nodes .now) (e .args .down .now) (e .args .up .now) (e .args .depth) (e .args .k) (c .before .before .before .before .before .before .before .before .before .node-at .result) (c .before .before .before .before .before .before .before .before .before .before .if1 .left) (c .before .before .before .before .before .before .before .before .before .node-at .ensures)) ∙ many-format (λ j. formatAt ((e .args .depth) - 1) (e .args .nodes .now) (e .args .down .now) (e .args .up .now) j) (e .args .nodes .now) (e .args .down .now) (e .args .up .now) _ _ _ _ _ _ (c .before .before .before .before .if6 .taken)) (c .before .before .write-list .ensures)
 
--- src/node.rt:88:9
-write-node-same-length-3 : (t : ℕ) → write-node-lts.Need-same-length-3 (
-  refuse-reads.Asked,
-  refuse-reads.Learnt,
-  node-at-reads.Asked,
-  node-at-reads.Learnt,
-  write-leaf-reads.Asked,
-  write-leaf-reads.Learnt,
-  write-sequence-below t,
-  write-sequence.Post,
-  write-list-below t,
-  write-list.Post,
-  write-inner-below t,
-  write-inner.Post,
-  lead-reads.Asked,
-  lead-reads.Learnt,
-  write-node-below t,
-  write-node.Post,
-) (write-node-at t) write-node.Post
-write-node-same-length-3 t c = search needs
+write-node-write-inner-requires : (t : ℕ) → write-node-lts.Need-write-inner-requires (refuse-reads.Asked, refuse-reads.Learnt, node-at-reads.Asked, node-at-reads.Learnt, write-leaf-reads.Asked, write-leaf-reads.Learnt, write-sequence-below t, write-sequence.Post, write-list-below t, write-list.Post, write-inner-below t, write-inner.Post, lead-reads.Asked, lead-reads.Learnt, write-node-below t, write-node.Post) (write-node-at t) write-node.Post
+write-node-write-inner-requires t c κs =
+    let e = c .before .before .before .before .before .before .before .before .before .before .before .before .before .before .before in
+    let z = inner-sure (λ j. formatAt ((e .args .depth) - 1) (e .args .nodes .now) (e .args .down .now) (e .args .up .now) j) (λ j. sureAt ((e .args .depth) - 1) (e .args .nodes .now) (e .args .down .now) (e .args .up .now) j) (e .args .nodes .now) _ _ _ _ _ _ (c .before .if7 .taken) (sure-step (e .args .nodes .now) (e .args .down .now) (e .args .up .now) (e .args .depth) (e .args .k) (c .before .before .before .before .before .before .before .node-at .result) (c .before .before .before .before .before .before .before .before .if1 .left) (c .before .before .before .before .before .before .before .node-at .ensures) ((e .pre .1) .2)) in (omega (arith, (e .pre .0), (c .before .before .before .before .before .before .before .before .if1 .left)), (((e .pre .1) .0), omega (arith, (e .pre .1) .1), z .1, z .0))
 
--- src/node.rt:88:9
-write-node-returns-5 : (t : ℕ) → write-node-lts.Need-returns-5 (
-  refuse-reads.Asked,
-  refuse-reads.Learnt,
-  node-at-reads.Asked,
-  node-at-reads.Learnt,
-  write-leaf-reads.Asked,
-  write-leaf-reads.Learnt,
-  write-sequence-below t,
-  write-sequence.Post,
-  write-list-below t,
-  write-list.Post,
-  write-inner-below t,
-  write-inner.Post,
-  lead-reads.Asked,
-  lead-reads.Learnt,
-  write-node-below t,
-  write-node.Post,
-) (write-node-at t) write-node.Post
-write-node-returns-5 t c = part-as _ _ _ _ _ _ _ _ _ _ ((format-step (c .before .before .before .before .before .before .before .before .before .before .before .before .before .before .before .before .args .nodes .now) (c .before .before .before .before .before .before .before .before .before .before .before .before .before .before .before .before .args .down .now) (c .before .before .before .before .before .before .before .before .before .before .before .before .before .before .before .before .args .up .now) (c .before .before .before .before .before .before .before .before .before .before .before .before .before .before .before .before .args .depth) (c .before .before .before .before .before .before .before .before .before .before .before .before .before .before .before .before .args .k) (c .before .before .before .before .before .before .before .before .node-at .result) (c .before .before .before .before .before .before .before .before .before .if1 .left) (c .before .before .before .before .before .before .before .before .node-at .ensures)) ∙ loose-format (λ j. formatAt ((c .before .before .before .before .before .before .before .before .before .before .before .before .before .before .before .before .args .depth) - 1) (c .before .before .before .before .before .before .before .before .before .before .before .before .before .before .before .before .args .nodes .now) (c .before .before .before .before .before .before .before .before .before .before .before .before .before .before .before .before .args .down .now) (c .before .before .before .before .before .before .before .before .before .before .before .before .before .before .before .before .args .up .now) j) (c .before .before .before .before .before .before .before .before .before .before .before .before .before .before .before .before .args .nodes .now) (c .before .before .before .before .before .before .before .before .before .before .before .before .before .before .before .before .args .down .now) (c .before .before .before .before .before .before .before .before .before .before .before .before .before .before .before .before .args .up .now) _ _ _ _ _ _ (c .before .before .before .before .if5 .taken)) (loose-as-seq (membersFrom (λ j. formatAt ((c .before .before .before .before .before .before .before .before .before .before .before .before .before .before .before .before .args .depth) - 1) (c .before .before .before .before .before .before .before .before .before .before .before .before .before .before .before .before .args .nodes .now) (c .before .before .before .before .before .before .before .before .before .before .before .before .before .before .before .before .args .down .now) (c .before .before .before .before .before .before .before .before .before .before .before .before .before .before .before .before .args .up .now) j) (c .before .before .before .before .before .before .before .before .before .before .before .before .before .before .before .before .args .nodes .now) (c .before .before .before .before .before .before .before .before .node-at .result .a) (c .before .before .before .before .before .before .before .before .node-at .result .b)) _ _ _ _ _ _ _ _ (c .before .before .write-sequence2 .ensures))
+write-node-returns-7 : (t : ℕ) → write-node-lts.Need-returns-7 (refuse-reads.Asked, refuse-reads.Learnt, node-at-reads.Asked, node-at-reads.Learnt, write-leaf-reads.Asked, write-leaf-reads.Learnt, write-sequence-below t, write-sequence.Post, write-list-below t, write-list.Post, write-inner-below t, write-inner.Post, lead-reads.Asked, lead-reads.Learnt, write-node-below t, write-node.Post) (write-node-at t) write-node.Post
+write-node-returns-7 t c =
+    let e = c .before .before .before .before .before .before .before .before .before .before .before .before .before .before .before .before .before .before in
+    part-as _ _ _ _ _ _ _ _ _ _ ((format-step (e .args .nodes .now) (e .args .down .now) (e .args .up .now) (e .args .depth) (e .args .k) (c .before .before .before .before .before .before .before .before .before .before .node-at .result) (c .before .before .before .before .before .before .before .before .before .before .before .if1 .left) (c .before .before .before .before .before .before .before .before .before .before .node-at .ensures)) ∙ inner-format (λ j. formatAt ((e .args .depth) - 1) (e .args .nodes .now) (e .args .down .now) (e .args .up .now) j) (e .args .nodes .now) (e .args .down .now) (e .args .up .now) _ _ _ _ _ _ (c .before .before .before .before .if7 .taken)) (c .before .before .write-inner .ensures)
 
--- src/node.rt:106:9
-write-node-write-list-requires : (t : ℕ) → write-node-lts.Need-write-list-requires (
-  refuse-reads.Asked,
-  refuse-reads.Learnt,
-  node-at-reads.Asked,
-  node-at-reads.Learnt,
-  write-leaf-reads.Asked,
-  write-leaf-reads.Learnt,
-  write-sequence-below t,
-  write-sequence.Post,
-  write-list-below t,
-  write-list.Post,
-  write-inner-below t,
-  write-inner.Post,
-  lead-reads.Asked,
-  lead-reads.Learnt,
-  write-node-below t,
-  write-node.Post,
-) (write-node-at t) write-node.Post
-write-node-write-list-requires t c κs = let z = many-sure (λ j. formatAt ((c .before .before .before .before .before .before .before .before .before .before .before .before .before .before .args .depth) - 1) (c .before .before .before .before .before .before .before .before .before .before .before .before .before .before .args .nodes .now) (c .before .before .before .before .before .before .before .before .before .before .before .before .before .before .args .down .now) (c .before .before .before .before .before .before .before .before .before .before .before .before .before .before .args .up .now) j) (λ j. sureAt ((c .before .before .before .before .before .before .before .before .before .before .before .before .before .before .args .depth) - 1) (c .before .before .before .before .before .before .before .before .before .before .before .before .before .before .args .nodes .now) (c .before .before .before .before .before .before .before .before .before .before .before .before .before .before .args .down .now) (c .before .before .before .before .before .before .before .before .before .before .before .before .before .before .args .up .now) j) (c .before .before .before .before .before .before .before .before .before .before .before .before .before .before .args .nodes .now) _ _ _ _ _ _ (c .before .if6 .taken) (sure-step (c .before .before .before .before .before .before .before .before .before .before .before .before .before .before .args .nodes .now) (c .before .before .before .before .before .before .before .before .before .before .before .before .before .before .args .down .now) (c .before .before .before .before .before .before .before .before .before .before .before .before .before .before .args .up .now) (c .before .before .before .before .before .before .before .before .before .before .before .before .before .before .args .depth) (c .before .before .before .before .before .before .before .before .before .before .before .before .before .before .args .k) (c .before .before .before .before .before .before .node-at .result) (c .before .before .before .before .before .before .before .if1 .left) (c .before .before .before .before .before .before .node-at .ensures) ((c .before .before .before .before .before .before .before .before .before .before .before .before .before .before .pre .1) .2)) in (omega (arith, (c .before .before .before .before .before .before .before .before .before .before .before .before .before .before .pre .0), (c .before .before .before .before .before .before .before .if1 .left)), (((c .before .before .before .before .before .before .before .before .before .before .before .before .before .before .pre .1) .0), omega (arith, (c .before .before .before .before .before .before .before .before .before .before .before .before .before .before .pre .1) .1), z .0, z .1, z .2, z .3))
+write-node-lead-requires : (t : ℕ) → write-node-lts.Need-lead-requires (refuse-reads.Asked, refuse-reads.Learnt, node-at-reads.Asked, node-at-reads.Learnt, write-leaf-reads.Asked, write-leaf-reads.Learnt, write-sequence-below t, write-sequence.Post, write-list-below t, write-list.Post, write-inner-below t, write-inner.Post, lead-reads.Asked, lead-reads.Learnt, write-node-below t, write-node.Post) (write-node-at t) write-node.Post
+write-node-lead-requires t c κs =
+    let e = c .before .before .before .before .before .before .before .before .before .before .before .before .before .before .before in
+    (((e .pre .1) .0) .list .records, ((e .pre .1) .0) .list .few, ((e .pre .1) .0) .down-some, ((e .pre .1) .0) .down-few, ((e .pre .1) .0) .up-some, ((e .pre .1) .0) .up-few, (above (c .before .before .before .before .before .before .if2 .left) (c .before .before .before .before .before .if3 .left) (c .before .before .before .before .if4 .left) (c .before .before .before .if5 .left) (c .before .before .if6 .left) (c .before .if7 .left)), above-sure (λ j. formatAt ((e .args .depth) - 1) (e .args .nodes .now) (e .args .down .now) (e .args .up .now) j) (λ j. sureAt ((e .args .depth) - 1) (e .args .nodes .now) (e .args .down .now) (e .args .up .now) j) (e .args .nodes .now) _ _ _ _ _ _ (above (c .before .before .before .before .before .before .if2 .left) (c .before .before .before .before .before .if3 .left) (c .before .before .before .before .if4 .left) (c .before .before .before .if5 .left) (c .before .before .if6 .left) (c .before .if7 .left)) (sure-step (e .args .nodes .now) (e .args .down .now) (e .args .up .now) (e .args .depth) (e .args .k) (c .before .before .before .before .before .before .before .node-at .result) (c .before .before .before .before .before .before .before .before .if1 .left) (c .before .before .before .before .before .before .before .node-at .ensures) ((e .pre .1) .2)))
 
--- src/node.rt:106:9
-write-node-same-length-4 : (t : ℕ) → write-node-lts.Need-same-length-4 (
-  refuse-reads.Asked,
-  refuse-reads.Learnt,
-  node-at-reads.Asked,
-  node-at-reads.Learnt,
-  write-leaf-reads.Asked,
-  write-leaf-reads.Learnt,
-  write-sequence-below t,
-  write-sequence.Post,
-  write-list-below t,
-  write-list.Post,
-  write-inner-below t,
-  write-inner.Post,
-  lead-reads.Asked,
-  lead-reads.Learnt,
-  write-node-below t,
-  write-node.Post,
-) (write-node-at t) write-node.Post
-write-node-same-length-4 t c = search needs
+write-node-write-node-requires : (t : ℕ) → write-node-lts.Need-write-node-requires (refuse-reads.Asked, refuse-reads.Learnt, node-at-reads.Asked, node-at-reads.Learnt, write-leaf-reads.Asked, write-leaf-reads.Learnt, write-sequence-below t, write-sequence.Post, write-list-below t, write-list.Post, write-inner-below t, write-inner.Post, lead-reads.Asked, lead-reads.Learnt, write-node-below t, write-node.Post) (write-node-at t) write-node.Post
+write-node-write-node-requires t c κs =
+    let e = c .before .before .before .before .before .before .before .before .before .before .before .before .before .before .before .before .before .before .before .before in
+    (omega (arith, (e .pre .0), (c .before .before .before .before .before .before .before .before .before .before .before .before .before .if1 .left)), (((e .pre .1) .0), omega (arith, (e .pre .1) .1), ((c .before .before .before .before .lead .ensures) (λ j. formatAt ((e .args .depth) - 1) (e .args .nodes .now) (e .args .down .now) (e .args .up .now) j) (λ j. sureAt ((e .args .depth) - 1) (e .args .nodes .now) (e .args .down .now) (e .args .up .now) j) (e .args .nodes .now) (bitOf (e .args .src .now)) (sure-step (e .args .nodes .now) (e .args .down .now) (e .args .up .now) (e .args .depth) (e .args .k) (c .before .before .before .before .before .before .before .before .before .before .before .before .node-at .result) (c .before .before .before .before .before .before .before .before .before .before .before .before .before .if1 .left) (c .before .before .before .before .before .before .before .before .before .before .before .before .node-at .ensures) ((e .pre .1) .2))) .sure))
 
--- src/node.rt:106:9
-write-node-returns-6 : (t : ℕ) → write-node-lts.Need-returns-6 (
-  refuse-reads.Asked,
-  refuse-reads.Learnt,
-  node-at-reads.Asked,
-  node-at-reads.Learnt,
-  write-leaf-reads.Asked,
-  write-leaf-reads.Learnt,
-  write-sequence-below t,
-  write-sequence.Post,
-  write-list-below t,
-  write-list.Post,
-  write-inner-below t,
-  write-inner.Post,
-  lead-reads.Asked,
-  lead-reads.Learnt,
-  write-node-below t,
-  write-node.Post,
-) (write-node-at t) write-node.Post
-write-node-returns-6 t c = part-as _ _ _ _ _ _ _ _ _ _ ((format-step (c .before .before .before .before .before .before .before .before .before .before .before .before .before .before .before .before .before .args .nodes .now) (c .before .before .before .before .before .before .before .before .before .before .before .before .before .before .before .before .before .args .down .now) (c .before .before .before .before .before .before .before .before .before .before .before .before .before .before .before .before .before .args .up .now) (c .before .before .before .before .before .before .before .before .before .before .before .before .before .before .before .before .before .args .depth) (c .before .before .before .before .before .before .before .before .before .before .before .before .before .before .before .before .before .args .k) (c .before .before .before .before .before .before .before .before .before .node-at .result) (c .before .before .before .before .before .before .before .before .before .before .if1 .left) (c .before .before .before .before .before .before .before .before .before .node-at .ensures)) ∙ many-format (λ j. formatAt ((c .before .before .before .before .before .before .before .before .before .before .before .before .before .before .before .before .before .args .depth) - 1) (c .before .before .before .before .before .before .before .before .before .before .before .before .before .before .before .before .before .args .nodes .now) (c .before .before .before .before .before .before .before .before .before .before .before .before .before .before .before .before .before .args .down .now) (c .before .before .before .before .before .before .before .before .before .before .before .before .before .before .before .before .before .args .up .now) j) (c .before .before .before .before .before .before .before .before .before .before .before .before .before .before .before .before .before .args .nodes .now) (c .before .before .before .before .before .before .before .before .before .before .before .before .before .before .before .before .before .args .down .now) (c .before .before .before .before .before .before .before .before .before .before .before .before .before .before .before .before .before .args .up .now) _ _ _ _ _ _ (c .before .before .before .before .if6 .taken)) (c .before .before .write-list .ensures)
+write-node-returns-8 : (t : ℕ) → write-node-lts.Need-returns-8 (refuse-reads.Asked, refuse-reads.Learnt, node-at-reads.Asked, node-at-reads.Learnt, write-leaf-reads.Asked, write-leaf-reads.Learnt, write-sequence-below t, write-sequence.Post, write-list-below t, write-list.Post, write-inner-below t, write-inner.Post, lead-reads.Asked, lead-reads.Learnt, write-node-below t, write-node.Post) (write-node-at t) write-node.Post
+write-node-returns-8 t c =
+    let e = c .before .before .before .before .before .before .before .before .before .before .before .before .before .before .before .before .before .before .before .before .before .before .before in
+    part-as _ _ _ _ _ _ _ _ _ _ (format-step (e .args .nodes .now) (e .args .down .now) (e .args .up .now) (e .args .depth) (e .args .k) (c .before .before .before .before .before .before .before .before .before .before .before .before .before .before .before .node-at .result) (c .before .before .before .before .before .before .before .before .before .before .before .before .before .before .before .before .if1 .left) (c .before .before .before .before .before .before .before .before .before .before .before .before .before .before .before .node-at .ensures)) (((c .before .before .before .before .before .before .before .lead .ensures) (λ j. formatAt ((e .args .depth) - 1) (e .args .nodes .now) (e .args .down .now) (e .args .up .now) j) (λ j. sureAt ((e .args .depth) - 1) (e .args .nodes .now) (e .args .down .now) (e .args .up .now) j) (e .args .nodes .now) (bitOf (e .args .src .now)) (sure-step (e .args .nodes .now) (e .args .down .now) (e .args .up .now) (e .args .depth) (e .args .k) (c .before .before .before .before .before .before .before .before .before .before .before .before .before .before .before .node-at .result) (c .before .before .before .before .before .before .before .before .before .before .before .before .before .before .before .before .if1 .left) (c .before .before .before .before .before .before .before .before .before .before .before .before .before .before .before .node-at .ensures) ((e .pre .1) .2))) .goes _ _ (c .before .before .write-node .ensures))
 
--- src/node.rt:125:9
-write-node-write-inner-requires : (t : ℕ) → write-node-lts.Need-write-inner-requires (
-  refuse-reads.Asked,
-  refuse-reads.Learnt,
-  node-at-reads.Asked,
-  node-at-reads.Learnt,
-  write-leaf-reads.Asked,
-  write-leaf-reads.Learnt,
-  write-sequence-below t,
-  write-sequence.Post,
-  write-list-below t,
-  write-list.Post,
-  write-inner-below t,
-  write-inner.Post,
-  lead-reads.Asked,
-  lead-reads.Learnt,
-  write-node-below t,
-  write-node.Post,
-) (write-node-at t) write-node.Post
-write-node-write-inner-requires t c κs = let z = inner-sure (λ j. formatAt ((c .before .before .before .before .before .before .before .before .before .before .before .before .before .before .before .args .depth) - 1) (c .before .before .before .before .before .before .before .before .before .before .before .before .before .before .before .args .nodes .now) (c .before .before .before .before .before .before .before .before .before .before .before .before .before .before .before .args .down .now) (c .before .before .before .before .before .before .before .before .before .before .before .before .before .before .before .args .up .now) j) (λ j. sureAt ((c .before .before .before .before .before .before .before .before .before .before .before .before .before .before .before .args .depth) - 1) (c .before .before .before .before .before .before .before .before .before .before .before .before .before .before .before .args .nodes .now) (c .before .before .before .before .before .before .before .before .before .before .before .before .before .before .before .args .down .now) (c .before .before .before .before .before .before .before .before .before .before .before .before .before .before .before .args .up .now) j) (c .before .before .before .before .before .before .before .before .before .before .before .before .before .before .before .args .nodes .now) _ _ _ _ _ _ (c .before .if7 .taken) (sure-step (c .before .before .before .before .before .before .before .before .before .before .before .before .before .before .before .args .nodes .now) (c .before .before .before .before .before .before .before .before .before .before .before .before .before .before .before .args .down .now) (c .before .before .before .before .before .before .before .before .before .before .before .before .before .before .before .args .up .now) (c .before .before .before .before .before .before .before .before .before .before .before .before .before .before .before .args .depth) (c .before .before .before .before .before .before .before .before .before .before .before .before .before .before .before .args .k) (c .before .before .before .before .before .before .before .node-at .result) (c .before .before .before .before .before .before .before .before .if1 .left) (c .before .before .before .before .before .before .before .node-at .ensures) ((c .before .before .before .before .before .before .before .before .before .before .before .before .before .before .before .pre .1) .2)) in (omega (arith, (c .before .before .before .before .before .before .before .before .before .before .before .before .before .before .before .pre .0), (c .before .before .before .before .before .before .before .before .if1 .left)), (((c .before .before .before .before .before .before .before .before .before .before .before .before .before .before .before .pre .1) .0), omega (arith, (c .before .before .before .before .before .before .before .before .before .before .before .before .before .before .before .pre .1) .1), z .1, z .0))
+write-repeat-returns : (t : ℕ) → write-repeat-lts.Need-returns (is-tagged-reads.Asked, is-tagged-reads.Learnt, write-node-below t, write-node.Post, write-repeat-below t, write-repeat.Post) (write-repeat-at t) write-repeat.Post
+write-repeat-returns t c =
+    let e = c .before .before .before .before .before .before .before in
+    repeat-none (formatAt (e .args .g) (e .args .nodes .now) (e .args .down .now) (e .args .up .now) (e .args .k)) (e .args .tag) (e .args .x) (e .args .i) (e .args .n) (bitOf (e .args .src .now)) _ _ (e .args .p) (e .args .p) (e .args .p) _ [] [] (c .if1 .taken)
 
--- src/node.rt:125:9
-write-node-same-length-5 : (t : ℕ) → write-node-lts.Need-same-length-5 (
-  refuse-reads.Asked,
-  refuse-reads.Learnt,
-  node-at-reads.Asked,
-  node-at-reads.Learnt,
-  write-leaf-reads.Asked,
-  write-leaf-reads.Learnt,
-  write-sequence-below t,
-  write-sequence.Post,
-  write-list-below t,
-  write-list.Post,
-  write-inner-below t,
-  write-inner.Post,
-  lead-reads.Asked,
-  lead-reads.Learnt,
-  write-node-below t,
-  write-node.Post,
-) (write-node-at t) write-node.Post
-write-node-same-length-5 t c = search needs
+write-repeat-returns-2 : (t : ℕ) → write-repeat-lts.Need-returns-2 (is-tagged-reads.Asked, is-tagged-reads.Learnt, write-node-below t, write-node.Post, write-repeat-below t, write-repeat.Post) (write-repeat-at t) write-repeat.Post
+write-repeat-returns-2 t c =
+    let e = c .before .before .before .before .before .before .before .before in
+    repeats-still (bitOf (e .args .src .now)) _ _ (formatAt (e .args .g) (e .args .nodes .now) (e .args .down .now) (e .args .up .now) (e .args .k)) (e .args .x) (e .args .i) (e .args .p) _ (e .args .p) _ _ [] (e .args .n) (c .if2 .taken) (c .if2 .taken)
 
--- src/node.rt:125:9
-write-node-returns-7 : (t : ℕ) → write-node-lts.Need-returns-7 (
-  refuse-reads.Asked,
-  refuse-reads.Learnt,
-  node-at-reads.Asked,
-  node-at-reads.Learnt,
-  write-leaf-reads.Asked,
-  write-leaf-reads.Learnt,
-  write-sequence-below t,
-  write-sequence.Post,
-  write-list-below t,
-  write-list.Post,
-  write-inner-below t,
-  write-inner.Post,
-  lead-reads.Asked,
-  lead-reads.Learnt,
-  write-node-below t,
-  write-node.Post,
-) (write-node-at t) write-node.Post
-write-node-returns-7 t c = part-as _ _ _ _ _ _ _ _ _ _ ((format-step (c .before .before .before .before .before .before .before .before .before .before .before .before .before .before .before .before .before .before .args .nodes .now) (c .before .before .before .before .before .before .before .before .before .before .before .before .before .before .before .before .before .before .args .down .now) (c .before .before .before .before .before .before .before .before .before .before .before .before .before .before .before .before .before .before .args .up .now) (c .before .before .before .before .before .before .before .before .before .before .before .before .before .before .before .before .before .before .args .depth) (c .before .before .before .before .before .before .before .before .before .before .before .before .before .before .before .before .before .before .args .k) (c .before .before .before .before .before .before .before .before .before .before .node-at .result) (c .before .before .before .before .before .before .before .before .before .before .before .if1 .left) (c .before .before .before .before .before .before .before .before .before .before .node-at .ensures)) ∙ inner-format (λ j. formatAt ((c .before .before .before .before .before .before .before .before .before .before .before .before .before .before .before .before .before .before .args .depth) - 1) (c .before .before .before .before .before .before .before .before .before .before .before .before .before .before .before .before .before .before .args .nodes .now) (c .before .before .before .before .before .before .before .before .before .before .before .before .before .before .before .before .before .before .args .down .now) (c .before .before .before .before .before .before .before .before .before .before .before .before .before .before .before .before .before .before .args .up .now) j) (c .before .before .before .before .before .before .before .before .before .before .before .before .before .before .before .before .before .before .args .nodes .now) (c .before .before .before .before .before .before .before .before .before .before .before .before .before .before .before .before .before .before .args .down .now) (c .before .before .before .before .before .before .before .before .before .before .before .before .before .before .before .before .before .before .args .up .now) _ _ _ _ _ _ (c .before .before .before .before .if7 .taken)) (c .before .before .write-inner .ensures)
-
--- src/node.rt:127:9
-write-node-lead-requires : (t : ℕ) → write-node-lts.Need-lead-requires (
-  refuse-reads.Asked,
-  refuse-reads.Learnt,
-  node-at-reads.Asked,
-  node-at-reads.Learnt,
-  write-leaf-reads.Asked,
-  write-leaf-reads.Learnt,
-  write-sequence-below t,
-  write-sequence.Post,
-  write-list-below t,
-  write-list.Post,
-  write-inner-below t,
-  write-inner.Post,
-  lead-reads.Asked,
-  lead-reads.Learnt,
-  write-node-below t,
-  write-node.Post,
-) (write-node-at t) write-node.Post
-write-node-lead-requires t c κs = (((c .before .before .before .before .before .before .before .before .before .before .before .before .before .before .before .pre .1) .0) .list .records, ((c .before .before .before .before .before .before .before .before .before .before .before .before .before .before .before .pre .1) .0) .list .few, ((c .before .before .before .before .before .before .before .before .before .before .before .before .before .before .before .pre .1) .0) .down-some, ((c .before .before .before .before .before .before .before .before .before .before .before .before .before .before .before .pre .1) .0) .down-few, ((c .before .before .before .before .before .before .before .before .before .before .before .before .before .before .before .pre .1) .0) .up-some, ((c .before .before .before .before .before .before .before .before .before .before .before .before .before .before .before .pre .1) .0) .up-few, (above (c .before .before .before .before .before .before .if2 .left) (c .before .before .before .before .before .if3 .left) (c .before .before .before .before .if4 .left) (c .before .before .before .if5 .left) (c .before .before .if6 .left) (c .before .if7 .left)), above-sure (λ j. formatAt ((c .before .before .before .before .before .before .before .before .before .before .before .before .before .before .before .args .depth) - 1) (c .before .before .before .before .before .before .before .before .before .before .before .before .before .before .before .args .nodes .now) (c .before .before .before .before .before .before .before .before .before .before .before .before .before .before .before .args .down .now) (c .before .before .before .before .before .before .before .before .before .before .before .before .before .before .before .args .up .now) j) (λ j. sureAt ((c .before .before .before .before .before .before .before .before .before .before .before .before .before .before .before .args .depth) - 1) (c .before .before .before .before .before .before .before .before .before .before .before .before .before .before .before .args .nodes .now) (c .before .before .before .before .before .before .before .before .before .before .before .before .before .before .before .args .down .now) (c .before .before .before .before .before .before .before .before .before .before .before .before .before .before .before .args .up .now) j) (c .before .before .before .before .before .before .before .before .before .before .before .before .before .before .before .args .nodes .now) _ _ _ _ _ _ (above (c .before .before .before .before .before .before .if2 .left) (c .before .before .before .before .before .if3 .left) (c .before .before .before .before .if4 .left) (c .before .before .before .if5 .left) (c .before .before .if6 .left) (c .before .if7 .left)) (sure-step (c .before .before .before .before .before .before .before .before .before .before .before .before .before .before .before .args .nodes .now) (c .before .before .before .before .before .before .before .before .before .before .before .before .before .before .before .args .down .now) (c .before .before .before .before .before .before .before .before .before .before .before .before .before .before .before .args .up .now) (c .before .before .before .before .before .before .before .before .before .before .before .before .before .before .before .args .depth) (c .before .before .before .before .before .before .before .before .before .before .before .before .before .before .before .args .k) (c .before .before .before .before .before .before .before .node-at .result) (c .before .before .before .before .before .before .before .before .if1 .left) (c .before .before .before .before .before .before .before .node-at .ensures) ((c .before .before .before .before .before .before .before .before .before .before .before .before .before .before .before .pre .1) .2)))
-
--- src/node.rt:129:5
-write-node-write-node-requires : (t : ℕ) → write-node-lts.Need-write-node-requires (
-  refuse-reads.Asked,
-  refuse-reads.Learnt,
-  node-at-reads.Asked,
-  node-at-reads.Learnt,
-  write-leaf-reads.Asked,
-  write-leaf-reads.Learnt,
-  write-sequence-below t,
-  write-sequence.Post,
-  write-list-below t,
-  write-list.Post,
-  write-inner-below t,
-  write-inner.Post,
-  lead-reads.Asked,
-  lead-reads.Learnt,
-  write-node-below t,
-  write-node.Post,
-) (write-node-at t) write-node.Post
-write-node-write-node-requires t c κs = (omega (arith, (c .before .before .before .before .before .before .before .before .before .before .before .before .before .before .before .before .before .before .before .before .pre .0), (c .before .before .before .before .before .before .before .before .before .before .before .before .before .if1 .left)), (((c .before .before .before .before .before .before .before .before .before .before .before .before .before .before .before .before .before .before .before .before .pre .1) .0), omega (arith, (c .before .before .before .before .before .before .before .before .before .before .before .before .before .before .before .before .before .before .before .before .pre .1) .1), ((c .before .before .before .before .lead .ensures) (λ j. formatAt ((c .before .before .before .before .before .before .before .before .before .before .before .before .before .before .before .before .before .before .before .before .args .depth) - 1) (c .before .before .before .before .before .before .before .before .before .before .before .before .before .before .before .before .before .before .before .before .args .nodes .now) (c .before .before .before .before .before .before .before .before .before .before .before .before .before .before .before .before .before .before .before .before .args .down .now) (c .before .before .before .before .before .before .before .before .before .before .before .before .before .before .before .before .before .before .before .before .args .up .now) j) (λ j. sureAt ((c .before .before .before .before .before .before .before .before .before .before .before .before .before .before .before .before .before .before .before .before .args .depth) - 1) (c .before .before .before .before .before .before .before .before .before .before .before .before .before .before .before .before .before .before .before .before .args .nodes .now) (c .before .before .before .before .before .before .before .before .before .before .before .before .before .before .before .before .before .before .before .before .args .down .now) (c .before .before .before .before .before .before .before .before .before .before .before .before .before .before .before .before .before .before .before .before .args .up .now) j) (c .before .before .before .before .before .before .before .before .before .before .before .before .before .before .before .before .before .before .before .before .args .nodes .now) (bitOf (c .before .before .before .before .before .before .before .before .before .before .before .before .before .before .before .before .before .before .before .before .args .src .now)) (sure-step (c .before .before .before .before .before .before .before .before .before .before .before .before .before .before .before .before .before .before .before .before .args .nodes .now) (c .before .before .before .before .before .before .before .before .before .before .before .before .before .before .before .before .before .before .before .before .args .down .now) (c .before .before .before .before .before .before .before .before .before .before .before .before .before .before .before .before .before .before .before .before .args .up .now) (c .before .before .before .before .before .before .before .before .before .before .before .before .before .before .before .before .before .before .before .before .args .depth) (c .before .before .before .before .before .before .before .before .before .before .before .before .before .before .before .before .before .before .before .before .args .k) (c .before .before .before .before .before .before .before .before .before .before .before .before .node-at .result) (c .before .before .before .before .before .before .before .before .before .before .before .before .before .if1 .left) (c .before .before .before .before .before .before .before .before .before .before .before .before .node-at .ensures) ((c .before .before .before .before .before .before .before .before .before .before .before .before .before .before .before .before .before .before .before .before .pre .1) .2))) .sure))
-
--- src/node.rt:36:1
-write-node-same-length-6 : (t : ℕ) → write-node-lts.Need-same-length-6 (
-  refuse-reads.Asked,
-  refuse-reads.Learnt,
-  node-at-reads.Asked,
-  node-at-reads.Learnt,
-  write-leaf-reads.Asked,
-  write-leaf-reads.Learnt,
-  write-sequence-below t,
-  write-sequence.Post,
-  write-list-below t,
-  write-list.Post,
-  write-inner-below t,
-  write-inner.Post,
-  lead-reads.Asked,
-  lead-reads.Learnt,
-  write-node-below t,
-  write-node.Post,
-) (write-node-at t) write-node.Post
-write-node-same-length-6 t c = search needs
-
--- src/node.rt:36:1
-write-node-returns-8 : (t : ℕ) → write-node-lts.Need-returns-8 (
-  refuse-reads.Asked,
-  refuse-reads.Learnt,
-  node-at-reads.Asked,
-  node-at-reads.Learnt,
-  write-leaf-reads.Asked,
-  write-leaf-reads.Learnt,
-  write-sequence-below t,
-  write-sequence.Post,
-  write-list-below t,
-  write-list.Post,
-  write-inner-below t,
-  write-inner.Post,
-  lead-reads.Asked,
-  lead-reads.Learnt,
-  write-node-below t,
-  write-node.Post,
-) (write-node-at t) write-node.Post
-write-node-returns-8 t c = part-as _ _ _ _ _ _ _ _ _ _ (format-step (c .before .before .before .before .before .before .before .before .before .before .before .before .before .before .before .before .before .before .before .before .before .before .before .args .nodes .now) (c .before .before .before .before .before .before .before .before .before .before .before .before .before .before .before .before .before .before .before .before .before .before .before .args .down .now) (c .before .before .before .before .before .before .before .before .before .before .before .before .before .before .before .before .before .before .before .before .before .before .before .args .up .now) (c .before .before .before .before .before .before .before .before .before .before .before .before .before .before .before .before .before .before .before .before .before .before .before .args .depth) (c .before .before .before .before .before .before .before .before .before .before .before .before .before .before .before .before .before .before .before .before .before .before .before .args .k) (c .before .before .before .before .before .before .before .before .before .before .before .before .before .before .before .node-at .result) (c .before .before .before .before .before .before .before .before .before .before .before .before .before .before .before .before .if1 .left) (c .before .before .before .before .before .before .before .before .before .before .before .before .before .before .before .node-at .ensures)) (((c .before .before .before .before .before .before .before .lead .ensures) (λ j. formatAt ((c .before .before .before .before .before .before .before .before .before .before .before .before .before .before .before .before .before .before .before .before .before .before .before .args .depth) - 1) (c .before .before .before .before .before .before .before .before .before .before .before .before .before .before .before .before .before .before .before .before .before .before .before .args .nodes .now) (c .before .before .before .before .before .before .before .before .before .before .before .before .before .before .before .before .before .before .before .before .before .before .before .args .down .now) (c .before .before .before .before .before .before .before .before .before .before .before .before .before .before .before .before .before .before .before .before .before .before .before .args .up .now) j) (λ j. sureAt ((c .before .before .before .before .before .before .before .before .before .before .before .before .before .before .before .before .before .before .before .before .before .before .before .args .depth) - 1) (c .before .before .before .before .before .before .before .before .before .before .before .before .before .before .before .before .before .before .before .before .before .before .before .args .nodes .now) (c .before .before .before .before .before .before .before .before .before .before .before .before .before .before .before .before .before .before .before .before .before .before .before .args .down .now) (c .before .before .before .before .before .before .before .before .before .before .before .before .before .before .before .before .before .before .before .before .before .before .before .args .up .now) j) (c .before .before .before .before .before .before .before .before .before .before .before .before .before .before .before .before .before .before .before .before .before .before .before .args .nodes .now) (bitOf (c .before .before .before .before .before .before .before .before .before .before .before .before .before .before .before .before .before .before .before .before .before .before .before .args .src .now)) (sure-step (c .before .before .before .before .before .before .before .before .before .before .before .before .before .before .before .before .before .before .before .before .before .before .before .args .nodes .now) (c .before .before .before .before .before .before .before .before .before .before .before .before .before .before .before .before .before .before .before .before .before .before .before .args .down .now) (c .before .before .before .before .before .before .before .before .before .before .before .before .before .before .before .before .before .before .before .before .before .before .before .args .up .now) (c .before .before .before .before .before .before .before .before .before .before .before .before .before .before .before .before .before .before .before .before .before .before .before .args .depth) (c .before .before .before .before .before .before .before .before .before .before .before .before .before .before .before .before .before .before .before .before .before .before .before .args .k) (c .before .before .before .before .before .before .before .before .before .before .before .before .before .before .before .node-at .result) (c .before .before .before .before .before .before .before .before .before .before .before .before .before .before .before .before .if1 .left) (c .before .before .before .before .before .before .before .before .before .before .before .before .before .before .before .node-at .ensures) ((c .before .before .before .before .before .before .before .before .before .before .before .before .before .before .before .before .before .before .before .before .before .before .before .pre .1) .2))) .goes _ _ (c .before .before .write-node .ensures))
-
--- src/node.rt:294:9
-write-repeat-returns : (t : ℕ) → write-repeat-lts.Need-returns (
-  is-tagged-reads.Asked,
-  is-tagged-reads.Learnt,
-  write-node-below t,
-  write-node.Post,
-  write-repeat-below t,
-  write-repeat.Post,
-) (write-repeat-at t) write-repeat.Post
-write-repeat-returns t c = repeat-none (formatAt (c .before .before .before .before .before .before .before .args .g) (c .before .before .before .before .before .before .before .args .nodes .now) (c .before .before .before .before .before .before .before .args .down .now) (c .before .before .before .before .before .before .before .args .up .now) (c .before .before .before .before .before .before .before .args .k)) (c .before .before .before .before .before .before .before .args .tag) (c .before .before .before .before .before .before .before .args .x) (c .before .before .before .before .before .before .before .args .i) (c .before .before .before .before .before .before .before .args .n) (bitOf (c .before .before .before .before .before .before .before .args .src .now)) _ _ (c .before .before .before .before .before .before .before .args .p) (c .before .before .before .before .before .before .before .args .p) (c .before .before .before .before .before .before .before .args .p) _ [] [] (c .if1 .taken)
-
--- src/node.rt:297:9
-write-repeat-returns-2 : (t : ℕ) → write-repeat-lts.Need-returns-2 (
-  is-tagged-reads.Asked,
-  is-tagged-reads.Learnt,
-  write-node-below t,
-  write-node.Post,
-  write-repeat-below t,
-  write-repeat.Post,
-) (write-repeat-at t) write-repeat.Post
-write-repeat-returns-2 t c = repeats-still (bitOf (c .before .before .before .before .before .before .before .before .args .src .now)) _ _ (formatAt (c .before .before .before .before .before .before .before .before .args .g) (c .before .before .before .before .before .before .before .before .args .nodes .now) (c .before .before .before .before .before .before .before .before .args .down .now) (c .before .before .before .before .before .before .before .before .args .up .now) (c .before .before .before .before .before .before .before .before .args .k)) (c .before .before .before .before .before .before .before .before .args .x) (c .before .before .before .before .before .before .before .before .args .i) (c .before .before .before .before .before .before .before .before .args .p) _ (c .before .before .before .before .before .before .before .before .args .p) _ _ [] (c .before .before .before .before .before .before .before .before .args .n) (c .if2 .taken) (c .if2 .taken)
-
--- src/node.rt:300:8
-write-repeat-is-tagged-requires : (t : ℕ) → write-repeat-lts.Need-is-tagged-requires (
-  is-tagged-reads.Asked,
-  is-tagged-reads.Learnt,
-  write-node-below t,
-  write-node.Post,
-  write-repeat-below t,
-  write-repeat.Post,
-) (write-repeat-at t) write-repeat.Post
+write-repeat-is-tagged-requires : (t : ℕ) → write-repeat-lts.Need-is-tagged-requires (is-tagged-reads.Asked, is-tagged-reads.Learnt, write-node-below t, write-node.Post, write-repeat-below t, write-repeat.Post) (write-repeat-at t) write-repeat.Post
 write-repeat-is-tagged-requires t c κs = (((c .before .before .before .before .before .before .before .before .pre .1) .0) .list .records, ((c .before .before .before .before .before .before .before .before .pre .1) .0) .list .few)
 
--- src/node.rt:301:13
-write-repeat-write-node-requires : (t : ℕ) → write-repeat-lts.Need-write-node-requires (
-  is-tagged-reads.Asked,
-  is-tagged-reads.Learnt,
-  write-node-below t,
-  write-node.Post,
-  write-repeat-below t,
-  write-repeat.Post,
-) (write-repeat-at t) write-repeat.Post
+write-repeat-write-node-requires : (t : ℕ) → write-repeat-lts.Need-write-node-requires (is-tagged-reads.Asked, is-tagged-reads.Learnt, write-node-below t, write-node.Post, write-repeat-below t, write-repeat.Post) (write-repeat-at t) write-repeat.Post
 write-repeat-write-node-requires t c κs = (omega (arith, (c .before .before .before .before .before .before .before .before .before .before .before .pre .0)), (((c .before .before .before .before .before .before .before .before .before .before .before .pre .1) .0), (c .before .before .before .before .before .before .before .before .before .before .before .pre .1) .1, (c .before .before .before .before .before .before .before .before .before .before .before .pre .1) .5))
 
--- src/node.rt:314:13
-write-repeat-add-write-repeat : (t : ℕ) → write-repeat-lts.Need-add-write-repeat (
-  is-tagged-reads.Asked,
-  is-tagged-reads.Learnt,
-  write-node-below t,
-  write-node.Post,
-  write-repeat-below t,
-  write-repeat.Post,
-) (write-repeat-at t) write-repeat.Post
+write-repeat-add-write-repeat : (t : ℕ) → write-repeat-lts.Need-add-write-repeat (is-tagged-reads.Asked, is-tagged-reads.Learnt, write-node-below t, write-node.Post, write-repeat-below t, write-repeat.Post) (write-repeat-at t) write-repeat.Post
 write-repeat-add-write-repeat t c = omega (arith, (c .before .before .before .before .before .before .before .before .before .before .before .before .before .before .before .pre .1) .2)
 
--- src/node.rt:315:13
-write-repeat-sub-write-repeat : (t : ℕ) → write-repeat-lts.Need-sub-write-repeat (
-  is-tagged-reads.Asked,
-  is-tagged-reads.Learnt,
-  write-node-below t,
-  write-node.Post,
-  write-repeat-below t,
-  write-repeat.Post,
-) (write-repeat-at t) write-repeat.Post
+write-repeat-sub-write-repeat : (t : ℕ) → write-repeat-lts.Need-sub-write-repeat (is-tagged-reads.Asked, is-tagged-reads.Learnt, write-node-below t, write-node.Post, write-repeat-below t, write-repeat.Post) (write-repeat-at t) write-repeat.Post
 write-repeat-sub-write-repeat t c = omega (arith, (c .before .before .before .before .before .before .before .before .if1 .left))
 
--- src/node.rt:302:13
-write-repeat-write-repeat-requires : (t : ℕ) → write-repeat-lts.Need-write-repeat-requires (
-  is-tagged-reads.Asked,
-  is-tagged-reads.Learnt,
-  write-node-below t,
-  write-node.Post,
-  write-repeat-below t,
-  write-repeat.Post,
-) (write-repeat-at t) write-repeat.Post
+write-repeat-write-repeat-requires : (t : ℕ) → write-repeat-lts.Need-write-repeat-requires (is-tagged-reads.Asked, is-tagged-reads.Learnt, write-node-below t, write-node.Post, write-repeat-below t, write-repeat.Post) (write-repeat-at t) write-repeat.Post
 write-repeat-write-repeat-requires t c κs = (omega (arith, (c .before .before .before .before .before .before .before .before .before .before .before .before .before .before .before .pre .0), (c .before .before .before .before .before .before .before .before .if1 .left)), (((c .before .before .before .before .before .before .before .before .before .before .before .before .before .before .before .pre .1) .0), (c .before .before .before .before .before .before .before .before .before .before .before .before .before .before .before .pre .1) .1, omega (arith, (c .before .before .before .before .before .before .before .before .before .before .before .before .before .before .before .pre .1) .2, (c .before .before .before .before .before .before .before .before .if1 .left)), omega (arith, (c .before .before .before .before .before .before .before .before .before .before .before .before .before .before .before .pre .1) .3), (c .before .before .before .before .before .before .before .before .before .before .before .before .before .before .before .pre .1) .4, (c .before .before .before .before .before .before .before .before .before .before .before .before .before .before .before .pre .1) .5))
 
--- src/node.rt:321:20
-write-repeat-add-t26 : (t : ℕ) → write-repeat-lts.Need-add-t26 (
-  is-tagged-reads.Asked,
-  is-tagged-reads.Learnt,
-  write-node-below t,
-  write-node.Post,
-  write-repeat-below t,
-  write-repeat.Post,
-) (write-repeat-at t) write-repeat.Post
+write-repeat-add-t26 : (t : ℕ) → write-repeat-lts.Need-add-t26 (is-tagged-reads.Asked, is-tagged-reads.Learnt, write-node-below t, write-node.Post, write-repeat-below t, write-repeat.Post) (write-repeat-at t) write-repeat.Post
 write-repeat-add-t26 t c = omega (arith, (c .before .before .before .before .write-repeat .ensures) .few, (c .before .before .before .before .before .before .before .before .before .before .before .before .before .before .before .before .before .before .before .before .pre .1) .3)
 
--- src/node.rt:319:9
-write-repeat-same-length : (t : ℕ) → write-repeat-lts.Need-same-length (
-  is-tagged-reads.Asked,
-  is-tagged-reads.Learnt,
-  write-node-below t,
-  write-node.Post,
-  write-repeat-below t,
-  write-repeat.Post,
-) (write-repeat-at t) write-repeat.Post
-write-repeat-same-length t c = search needs
+write-repeat-returns-3 : (t : ℕ) → write-repeat-lts.Need-returns-3 (is-tagged-reads.Asked, is-tagged-reads.Learnt, write-node-below t, write-node.Post, write-repeat-below t, write-repeat.Post) (write-repeat-at t) write-repeat.Post
+write-repeat-returns-3 t c =
+    let e = c .before .before .before .before .before .before .before .before .before .before .before .before .before .before .before .before .before .before .before .before in
+    repeat-more (formatAt (e .args .g) (e .args .nodes .now) (e .args .down .now) (e .args .up .now) (e .args .k)) (e .args .tag) (e .args .x) (e .args .i) (e .args .n) (bitOf (e .args .src .now)) _ _ (e .args .p) _ _ _ _ _ _ (c .before .before .before .before .before .before .before .before .before .before .before .before .before .if1 .left) ((e .pre .1) .4) _ ((c .before .before .before .before .before .before .before .before .before .before .before .is-tagged .ensures) (bitOf (e .args .src .now))) (c .before .before .before .before .before .before .before .before .before .before .if3 .taken) (c .before .before .before .before .before .before .before .before .write-node .ensures) (c .before .before .before .before .write-repeat .ensures)
 
--- src/node.rt:319:9
-write-repeat-returns-3 : (t : ℕ) → write-repeat-lts.Need-returns-3 (
-  is-tagged-reads.Asked,
-  is-tagged-reads.Learnt,
-  write-node-below t,
-  write-node.Post,
-  write-repeat-below t,
-  write-repeat.Post,
-) (write-repeat-at t) write-repeat.Post
-write-repeat-returns-3 t c = repeat-more (formatAt (c .before .before .before .before .before .before .before .before .before .before .before .before .before .before .before .before .before .before .before .before .args .g) (c .before .before .before .before .before .before .before .before .before .before .before .before .before .before .before .before .before .before .before .before .args .nodes .now) (c .before .before .before .before .before .before .before .before .before .before .before .before .before .before .before .before .before .before .before .before .args .down .now) (c .before .before .before .before .before .before .before .before .before .before .before .before .before .before .before .before .before .before .before .before .args .up .now) (c .before .before .before .before .before .before .before .before .before .before .before .before .before .before .before .before .before .before .before .before .args .k)) (c .before .before .before .before .before .before .before .before .before .before .before .before .before .before .before .before .before .before .before .before .args .tag) (c .before .before .before .before .before .before .before .before .before .before .before .before .before .before .before .before .before .before .before .before .args .x) (c .before .before .before .before .before .before .before .before .before .before .before .before .before .before .before .before .before .before .before .before .args .i) (c .before .before .before .before .before .before .before .before .before .before .before .before .before .before .before .before .before .before .before .before .args .n) (bitOf (c .before .before .before .before .before .before .before .before .before .before .before .before .before .before .before .before .before .before .before .before .args .src .now)) _ _ (c .before .before .before .before .before .before .before .before .before .before .before .before .before .before .before .before .before .before .before .before .args .p) _ _ _ _ _ _ (c .before .before .before .before .before .before .before .before .before .before .before .before .before .if1 .left) ((c .before .before .before .before .before .before .before .before .before .before .before .before .before .before .before .before .before .before .before .before .pre .1) .4) _ ((c .before .before .before .before .before .before .before .before .before .before .before .is-tagged .ensures) (bitOf (c .before .before .before .before .before .before .before .before .before .before .before .before .before .before .before .before .before .before .before .before .args .src .now))) (c .before .before .before .before .before .before .before .before .before .before .if3 .taken) (c .before .before .before .before .before .before .before .before .write-node .ensures) (c .before .before .before .before .write-repeat .ensures)
+write-repeat-returns-4 : (t : ℕ) → write-repeat-lts.Need-returns-4 (is-tagged-reads.Asked, is-tagged-reads.Learnt, write-node-below t, write-node.Post, write-repeat-below t, write-repeat.Post) (write-repeat-at t) write-repeat.Post
+write-repeat-returns-4 t c =
+    let e = c .before .before .before .before .before .before .before .before .before .before in
+    repeat-end (formatAt (e .args .g) (e .args .nodes .now) (e .args .down .now) (e .args .up .now) (e .args .k)) (e .args .tag) (e .args .x) (e .args .i) (e .args .n) (bitOf (e .args .src .now)) _ _ (e .args .p) (e .args .p) (e .args .p) _ [] [] (c .before .before .before .if1 .left) ((e .pre .1) .4) _ ((c .before .is-tagged .ensures) (bitOf (e .args .src .now))) (c .if3 .left)
 
--- src/node.rt:274:1
-write-repeat-returns-4 : (t : ℕ) → write-repeat-lts.Need-returns-4 (
-  is-tagged-reads.Asked,
-  is-tagged-reads.Learnt,
-  write-node-below t,
-  write-node.Post,
-  write-repeat-below t,
-  write-repeat.Post,
-) (write-repeat-at t) write-repeat.Post
-write-repeat-returns-4 t c = repeat-end (formatAt (c .before .before .before .before .before .before .before .before .before .before .args .g) (c .before .before .before .before .before .before .before .before .before .before .args .nodes .now) (c .before .before .before .before .before .before .before .before .before .before .args .down .now) (c .before .before .before .before .before .before .before .before .before .before .args .up .now) (c .before .before .before .before .before .before .before .before .before .before .args .k)) (c .before .before .before .before .before .before .before .before .before .before .args .tag) (c .before .before .before .before .before .before .before .before .before .before .args .x) (c .before .before .before .before .before .before .before .before .before .before .args .i) (c .before .before .before .before .before .before .before .before .before .before .args .n) (bitOf (c .before .before .before .before .before .before .before .before .before .before .args .src .now)) _ _ (c .before .before .before .before .before .before .before .before .before .before .args .p) (c .before .before .before .before .before .before .before .before .before .before .args .p) (c .before .before .before .before .before .before .before .before .before .before .args .p) _ [] [] (c .before .before .before .if1 .left) ((c .before .before .before .before .before .before .before .before .before .before .pre .1) .4) _ ((c .before .is-tagged .ensures) (bitOf (c .before .before .before .before .before .before .before .before .before .before .args .src .now))) (c .if3 .left)
-
--- src/node.rt:152:9
-write-sequence-place-requires : (t : ℕ) → write-sequence-lts.Need-place-requires (
-  place-reads.Asked,
-  place-reads.Learnt,
-  skip-reads.Asked,
-  skip-reads.Learnt,
-  write-members-below t,
-  write-members.Post,
-) (write-sequence-at t) write-sequence.Post
-write-sequence-place-requires t c κs = search needs
-
--- src/node.rt:153:9
-write-sequence-skip-requires : (t : ℕ) → write-sequence-lts.Need-skip-requires (
-  place-reads.Asked,
-  place-reads.Learnt,
-  skip-reads.Asked,
-  skip-reads.Learnt,
-  write-members-below t,
-  write-members.Post,
-) (write-sequence-at t) write-sequence.Post
+write-sequence-skip-requires : (t : ℕ) → write-sequence-lts.Need-skip-requires (place-reads.Asked, place-reads.Learnt, skip-reads.Asked, skip-reads.Learnt, write-members-below t, write-members.Post) (write-sequence-at t) write-sequence.Post
 write-sequence-skip-requires t c κs = (c .before .before .before .before .before .before .before .pre .1) .4
 
--- src/node.rt:154:5
-write-sequence-write-members-requires : (t : ℕ) → write-sequence-lts.Need-write-members-requires (
-  place-reads.Asked,
-  place-reads.Learnt,
-  skip-reads.Asked,
-  skip-reads.Learnt,
-  write-members-below t,
-  write-members.Post,
-) (write-sequence-at t) write-sequence.Post
+write-sequence-write-members-requires : (t : ℕ) → write-sequence-lts.Need-write-members-requires (place-reads.Asked, place-reads.Learnt, skip-reads.Asked, skip-reads.Learnt, write-members-below t, write-members.Post) (write-sequence-at t) write-sequence.Post
 write-sequence-write-members-requires t c κs = (omega (arith, (c .before .before .before .before .before .before .before .before .before .pre .0), (c .before .before .before .before .before .before .before .before .before .pre .1) .3), (((c .before .before .before .before .before .before .before .before .before .pre .1) .0), (c .before .before .before .before .before .before .before .before .before .pre .1) .1, omega (arith, (c .before .before .before .before .before .before .before .before .before .pre .1) .2, (c .before .before .before .before .before .before .before .before .before .pre .1) .3), (c .before .before .before .before .before .before .before .before .before .pre .1) .3, omega (arith, (c .before .before .place .ensures) .1, (c .before .before .before .before .before .before .before .before .before .pre .1) .3), (c .before .before .before .before .before .before .before .before .before .pre .1) .6))
 
--- src/node.rt:133:1
-write-sequence-same-length : (t : ℕ) → write-sequence-lts.Need-same-length (
-  place-reads.Asked,
-  place-reads.Learnt,
-  skip-reads.Asked,
-  skip-reads.Learnt,
-  write-members-below t,
-  write-members.Post,
-) (write-sequence-at t) write-sequence.Post
-write-sequence-same-length t c = search needs
-
--- src/node.rt:133:1
-write-sequence-returns : (t : ℕ) → write-sequence-lts.Need-returns (
-  place-reads.Asked,
-  place-reads.Learnt,
-  skip-reads.Asked,
-  skip-reads.Learnt,
-  write-members-below t,
-  write-members.Post,
-) (write-sequence-at t) write-sequence.Post
-write-sequence-returns t c = seq-part (bitOf (c .before .before .before .before .before .before .before .before .before .before .before .before .args .src .now)) _ _ _ (c .before .before .before .before .before .before .before .before .before .before .before .before .args .p) _ _ _ _ _ _ ((c .before .before .before .before .before .place .ensures) .0) (skips-as (sym ((c .before .before .before .before .before .before .before .before .before .before .before .before .pre .1) .5)) (c .before .before .before .before .skip .ensures)) (c .before .before .write-members .ensures)
+write-sequence-returns : (t : ℕ) → write-sequence-lts.Need-returns (place-reads.Asked, place-reads.Learnt, skip-reads.Asked, skip-reads.Learnt, write-members-below t, write-members.Post) (write-sequence-at t) write-sequence.Post
+write-sequence-returns t c =
+    let e = c .before .before .before .before .before .before .before .before .before .before .before .before in
+    seq-part (bitOf (e .args .src .now)) _ _ _ (e .args .p) _ _ _ _ _ _ ((c .before .before .before .before .before .place .ensures) .0) (skips-as (sym ((e .pre .1) .5)) (c .before .before .before .before .skip .ensures)) (c .before .before .write-members .ensures)
 
 pub +write-inner+write-list+write-members+write-node+write-repeat+write-sequence-spec :
     {M : Type 1} → statement M
@@ -1411,164 +373,9 @@ pub +write-inner+write-list+write-members+write-node+write-repeat+write-sequence
     μ-write-node
     μ-write-repeat
     μ-write-sequence
-    (λ t. write-inner-lts.spec (
-      write-node-below t,
-      write-node.Post,
-      refuse-reads.Asked,
-      refuse-reads.Learnt,
-      ink-reads.Asked,
-      ink-reads.Learnt,
-    )
-    (write-inner-at t)
-    write-inner.Post
-    (write-inner-slice-aggregate-write-node t)
-    (write-inner-write-node-requires t)
-    (write-inner-refuse-requires t)
-    (write-inner-returns t)
-    (write-inner-refuse-requires-2 t)
-    (write-inner-returns-2 t)
-    (write-inner-ink-requires t)
-    (write-inner-write-node-requires-2 t)
-    (write-inner-same-length t)
-    (write-inner-returns-3 t)
-    (write-inner-add-ink t)
-    (write-inner-ink-requires-2 t)
-    (write-inner-write-node-requires-3 t)
-    (write-inner-same-length-2 t)
-    (write-inner-returns-4 t))
-    (λ t. write-list-lts.spec (
-      place-reads.Asked,
-      place-reads.Learnt,
-      bits-for-reads.Asked,
-      bits-for-reads.Learnt,
-      skip-reads.Asked,
-      skip-reads.Learnt,
-      write-repeat-below t,
-      write-repeat.Post,
-      refuse-reads.Asked,
-      refuse-reads.Learnt,
-      put-at-reads.Asked,
-      put-at-reads.Learnt,
-    )
-    (write-list-at t)
-    write-list.Post
-    (write-list-place-requires t)
-    (write-list-sub-bits-for t)
-    (write-list-bits-for-requires t)
-    (write-list-skip-requires t)
-    (write-list-write-repeat-requires t)
-    (write-list-same-length t)
-    (write-list-returns t)
-    (write-list-refuse-requires t)
-    (write-list-same-length-2 t)
-    (write-list-returns-2 t)
-    (write-list-put-at-requires t)
-    (write-list-same-length-3 t)
-    (write-list-returns-3 t))
-    (λ t. write-members-lts.spec (
-      node-at-reads.Asked,
-      node-at-reads.Learnt,
-      meet-reads.Asked,
-      meet-reads.Learnt,
-      write-node-below t,
-      write-node.Post,
-      write-members-below t,
-      write-members.Post,
-    )
-    (write-members-at t)
-    write-members.Post
-    (write-members-returns t)
-    (write-members-node-at-requires t)
-    (write-members-meet-requires t)
-    (write-members-write-node-requires t)
-    (write-members-add-write-members t)
-    (write-members-sub-write-members t)
-    (write-members-write-members-requires t)
-    (write-members-same-length t)
-    (write-members-returns-2 t)
-    (write-members-add-write-members-2 t)
-    (write-members-sub-write-members-2 t)
-    (write-members-write-members-requires-2 t)
-    (write-members-same-length-2 t)
-    (write-members-returns-3 t))
-    (λ t. write-node-lts.spec (
-      refuse-reads.Asked,
-      refuse-reads.Learnt,
-      node-at-reads.Asked,
-      node-at-reads.Learnt,
-      write-leaf-reads.Asked,
-      write-leaf-reads.Learnt,
-      write-sequence-below t,
-      write-sequence.Post,
-      write-list-below t,
-      write-list.Post,
-      write-inner-below t,
-      write-inner.Post,
-      lead-reads.Asked,
-      lead-reads.Learnt,
-      write-node-below t,
-      write-node.Post,
-    )
-    (write-node-at t)
-    write-node.Post
-    (write-node-refuse-requires t)
-    (write-node-returns t)
-    (write-node-sub-g t)
-    (write-node-node-at-requires t)
-    (write-node-write-leaf-requires t)
-    (write-node-same-length t)
-    (write-node-returns-2 t)
-    (write-node-refuse-requires-2 t)
-    (write-node-returns-3 t)
-    (write-node-write-sequence-requires t)
-    (write-node-same-length-2 t)
-    (write-node-returns-4 t)
-    (write-node-write-sequence-requires-2 t)
-    (write-node-same-length-3 t)
-    (write-node-returns-5 t)
-    (write-node-write-list-requires t)
-    (write-node-same-length-4 t)
-    (write-node-returns-6 t)
-    (write-node-write-inner-requires t)
-    (write-node-same-length-5 t)
-    (write-node-returns-7 t)
-    (write-node-lead-requires t)
-    (write-node-write-node-requires t)
-    (write-node-same-length-6 t)
-    (write-node-returns-8 t))
-    (λ t. write-repeat-lts.spec (
-      is-tagged-reads.Asked,
-      is-tagged-reads.Learnt,
-      write-node-below t,
-      write-node.Post,
-      write-repeat-below t,
-      write-repeat.Post,
-    )
-    (write-repeat-at t)
-    write-repeat.Post
-    (write-repeat-returns t)
-    (write-repeat-returns-2 t)
-    (write-repeat-is-tagged-requires t)
-    (write-repeat-write-node-requires t)
-    (write-repeat-add-write-repeat t)
-    (write-repeat-sub-write-repeat t)
-    (write-repeat-write-repeat-requires t)
-    (write-repeat-add-t26 t)
-    (write-repeat-same-length t)
-    (write-repeat-returns-3 t)
-    (write-repeat-returns-4 t))
-    λ t. write-sequence-lts.spec (
-      place-reads.Asked,
-      place-reads.Learnt,
-      skip-reads.Asked,
-      skip-reads.Learnt,
-      write-members-below t,
-      write-members.Post,
-    )
-    (write-sequence-at t)
-    write-sequence.Post
-    (write-sequence-place-requires t)
-    (write-sequence-skip-requires t)
-    (write-sequence-write-members-requires t)
-    (write-sequence-same-length t)
-    (write-sequence-returns t)
+    (λ t. write-inner-lts.spec (write-node-below t, write-node.Post, refuse-reads.Asked, refuse-reads.Learnt, ink-reads.Asked, ink-reads.Learnt) (write-inner-at t) write-inner.Post (λ c. search needs) (write-inner-write-node-requires t) (λ c κs. search needs) (write-inner-returns t) (λ c κs. search needs) (write-inner-returns-2 t) (write-inner-ink-requires t) (write-inner-write-node-requires-2 t) (λ c. search needs) (write-inner-returns-3 t) (write-inner-add-ink t) (write-inner-ink-requires-2 t) (write-inner-write-node-requires-3 t) (λ c. search needs) (write-inner-returns-4 t))
+    (λ t. write-list-lts.spec (place-reads.Asked, place-reads.Learnt, bits-for-reads.Asked, bits-for-reads.Learnt, skip-reads.Asked, skip-reads.Learnt, write-repeat-below t, write-repeat.Post, refuse-reads.Asked, refuse-reads.Learnt, put-at-reads.Asked, put-at-reads.Learnt) (write-list-at t) write-list.Post (λ c κs. search needs) (write-list-sub-bits-for t) (λ c κs. search needs) (write-list-skip-requires t) (write-list-write-repeat-requires t) (λ c. search needs) (write-list-returns t) (λ c κs. search needs) (λ c. search needs) (write-list-returns-2 t) (write-list-put-at-requires t) (λ c. search needs) (write-list-returns-3 t))
+    (λ t. write-members-lts.spec (node-at-reads.Asked, node-at-reads.Learnt, meet-reads.Asked, meet-reads.Learnt, write-node-below t, write-node.Post, write-members-below t, write-members.Post) (write-members-at t) write-members.Post (write-members-returns t) (write-members-node-at-requires t) (write-members-meet-requires t) (write-members-write-node-requires t) (write-members-add-write-members t) (write-members-sub-write-members t) (write-members-write-members-requires t) (λ c. search needs) (write-members-returns-2 t) (write-members-add-write-members-2 t) (write-members-sub-write-members-2 t) (write-members-write-members-requires-2 t) (λ c. search needs) (write-members-returns-3 t))
+    (λ t. write-node-lts.spec (refuse-reads.Asked, refuse-reads.Learnt, node-at-reads.Asked, node-at-reads.Learnt, write-leaf-reads.Asked, write-leaf-reads.Learnt, write-sequence-below t, write-sequence.Post, write-list-below t, write-list.Post, write-inner-below t, write-inner.Post, lead-reads.Asked, lead-reads.Learnt, write-node-below t, write-node.Post) (write-node-at t) write-node.Post (λ c κs. search needs) (write-node-returns t) (write-node-sub-g t) (write-node-node-at-requires t) (write-node-write-leaf-requires t) (λ c. search needs) (write-node-returns-2 t) (λ c κs. search needs) (write-node-returns-3 t) (write-node-write-sequence-requires t) (λ c. search needs) (write-node-returns-4 t) (write-node-write-sequence-requires-2 t) (λ c. search needs) (write-node-returns-5 t) (write-node-write-list-requires t) (λ c. search needs) (write-node-returns-6 t) (write-node-write-inner-requires t) (λ c. search needs) (write-node-returns-7 t) (write-node-lead-requires t) (write-node-write-node-requires t) (λ c. search needs) (write-node-returns-8 t))
+    (λ t. write-repeat-lts.spec (is-tagged-reads.Asked, is-tagged-reads.Learnt, write-node-below t, write-node.Post, write-repeat-below t, write-repeat.Post) (write-repeat-at t) write-repeat.Post (write-repeat-returns t) (write-repeat-returns-2 t) (write-repeat-is-tagged-requires t) (write-repeat-write-node-requires t) (write-repeat-add-write-repeat t) (write-repeat-sub-write-repeat t) (write-repeat-write-repeat-requires t) (write-repeat-add-t26 t) (λ c. search needs) (write-repeat-returns-3 t) (write-repeat-returns-4 t))
+    λ t. write-sequence-lts.spec (place-reads.Asked, place-reads.Learnt, skip-reads.Asked, skip-reads.Learnt, write-members-below t, write-members.Post) (write-sequence-at t) write-sequence.Post (λ c κs. search needs) (write-sequence-skip-requires t) (write-sequence-write-members-requires t) (λ c. search needs) (write-sequence-returns t)
