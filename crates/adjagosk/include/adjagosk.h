@@ -1,4 +1,4 @@
-/* The five entries of Adjagosk for C: link libadjagosk.a, which `rt staticlib adjagosk` writes (x86-64).
+/* The five entries of Adjagosk, and its writer, for C: link libadjagosk.a, which `rt staticlib adjagosk` writes (x86-64).
 
    Each takes a frame and lends words for the records; all memory is the caller's. It writes nothing but the words
    given, reads nothing but what is passed, keeps nothing, and always returns. No pointer may be null, also where the
@@ -42,6 +42,23 @@ struct adjagosk_numbers adjagosk_cm_logon(const uint8_t *frame, size_t frame_len
 
 /* Association control. */
 struct adjagosk_numbers adjagosk_acse(const uint8_t *frame, size_t frame_length, uint64_t *words, size_t words_length);
+
+struct adjagosk_frame {
+    uint64_t refused; /* 0: written; 2 a table of 0 or over 256 entries, 3 direction over 1, 8 an unknown kind, a list of no
+                         clean message or a span past its bytes, 9 too few bytes */
+    size_t bits;      /* the bits of the message; its last byte is padded with zero bits */
+    size_t need;      /* behind 9: the bytes needed */
+}; /* behind a refusal the bytes stay */
+
+/* From a list of records, four words each, to the frame of a clean message: kind 0 CPDLC, 1 context management,
+   2 association control; direction 0 the aircraft's message, 1 the ground's. The list's spans point into the bits of
+   `source`. Nothing of `out` may overlap what is read. */
+struct adjagosk_frame adjagosk_write(uint64_t kind, uint64_t direction,
+                                     const uint8_t *down, size_t down_length,
+                                     const uint8_t *up, size_t up_length,
+                                     const uint64_t *words, size_t words_length,
+                                     const uint8_t *source, size_t source_length,
+                                     uint8_t *out, size_t out_length);
 
 #ifdef __cplusplus
 }

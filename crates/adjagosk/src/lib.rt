@@ -1,4 +1,4 @@
-// The five entries for programs in C and Rust: `rt staticlib adjagosk`, and include/adjagosk.h beside src/. A slice is a pointer and a length there.
+// The five entries, and the writer, for programs in C and Rust: `rt staticlib adjagosk`, and include/adjagosk.h beside src/. A slice is a pointer and a length there.
 ghost use mathlib.Core.Path.{_≡_};
 ghost use Rattle.atn.specs.Entries.{parse-apdu, parse-pdus, parse-cm-ground, parse-cm-logon, parse-acse-apdu};
 ghost use Rattle.answers.specs.Says.{answerOf};
@@ -9,6 +9,8 @@ use cm::parse_cm_ground;
 use cm::parse_cm_logon;
 use cpdlc::parse_apdu;
 use cpdlc::parse_pdus;
+
+pub mod writing; // writing.rt: the writer of fixture frames
 
 // An answer in numbers. `refused` is 0, or document 01's number. Behind a refusal all but the reach and, for 7, the words needed is 0.
 #[repr(C)]

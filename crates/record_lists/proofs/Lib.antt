@@ -5,3 +5,4 @@ pub mod Seen
 pub mod Written
 pub mod Messages
 pub mod Longest
+pub mod Firm
