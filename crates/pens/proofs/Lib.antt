@@ -1,4 +1,5 @@
 pub mod RestLaws
+pub mod GotLaws
 pub mod PenLaws
 pub mod PartLaws
 pub mod MemberLaws

@@ -25,9 +25,6 @@ use Rattle.pens.specs.Writes.{limit, Took, Wrote, Writes, Skips, Part, R
 use Rattle.pens.proofs.PenLaws.{then-writes, writes-still}
 use Rattle.pens.proofs.MemberLaws.{setBits-swap}
 
-no-more : {A : Type 0} {B : Type 0} {v : A} {S : List Item} → no ≡ got v S → B
-no-more h = let z : _≡_ {A = ℕ} 0 1 = cc in absurd (omega arith)
-
 module _ (b : ℕ → ℕ) (W : List ℕ) (m : ℕ) (f : Fmt) (e i : ℕ) (p q r : Pen) (X Y Z : List ℕ) where
   abbrev T : ℕ → List Item
   T j = items b W m j

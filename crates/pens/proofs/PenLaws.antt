@@ -13,15 +13,12 @@ use Rattle.record_lists.specs.Parse.{Got, no, got, same, begins, peel, feed, tu
 use Rattle.record_lists.proofs.Forth.{differ}
 use Rattle.pens.specs.declared.Pen.{Pen}
 use Rattle.pens.specs.Writes.{limit, Took, Wrote, Writes, Inks}
+use Rattle.pens.proofs.GotLaws.{writes-none}
 
 module _ {A : Type 0} (enc : A → List ℕ) (g : List Item → Got A) (T : ℕ → List Item) (m : ℕ) (p : Pen) (X : List ℕ) (q : Pen) (Y : List ℕ) where
   -- the list is refused already
   pub writes-still : p .off ≡ true → q .off ≡ true → Writes enc g T m p X q Y
   writes-still h k = record { still = λ _. k; goes = λ z l. differ (sym z ∙ h) }
-
-  -- no value is got
-  pub writes-no : p .off ≡ false → g (T (p .next)) ≡ no → q .off ≡ true → Writes enc g T m p X q Y
-  writes-no h e k = record { still = λ _. k; goes = λ z l. rw e k }
 
   pub writes-got : {v : A} {S : List Item} → p .off ≡ false → g (T (p .next)) ≡ got v S → Took enc T m p X q Y v S → Writes enc g T m p X q Y
   writes-got h e k = record { still = λ z. differ (sym h ∙ z); goes = λ z l. rw e k }
@@ -54,7 +51,7 @@ module _ (x : Item) (T : ℕ → List Item) (m : ℕ) (p q : Pen) (X : List ℕ)
       (record { on = o; left = t; fits = l; wrote = λ _. (a ∙ omega arith, refl) })
 
   pub other-record : p .off ≡ false → begins x (T (p .next)) ≡ false → q .off ≡ true → Writes (λ _. []) (λ R. peel (x ∷ []) zero R) T m p X q X
-  other-record h b o = writes-no (λ _. []) (λ R. peel (x ∷ []) zero R) T m p X q X h (peel-not x (T (p .next)) b) o
+  other-record h b o = writes-none (λ _. []) (λ R. peel (x ∷ []) zero R) T m p X q X (peel-not x (T (p .next)) b) o
 
 ---------------------------------------------------------------- one part, and then another
 

@@ -22,7 +22,7 @@ pub struct Pen {
 }
 
 // No message has as many bits. Behind this place nothing is put.
-const LIMIT: usize = 4294967296;
+pub const LIMIT: usize = 4294967296;
 
 // Whether record i, of m, has this tag.
 pub fn is_tagged(words: &[u64], m: usize, i: usize, tag: u64) -> bool

@@ -150,7 +150,7 @@ text-back t m n c lo cs R l k h a =
 
 ---------------------------------------------------------------- spans
 
-spells-own : (b : ℕ → ℕ) (at : ℕ) (xs : List ℕ) → ((i : ℕ) → b (at + i) ≡ getD xs i 0) → Spells b at xs
+pub spells-own : (b : ℕ → ℕ) (at : ℕ) (xs : List ℕ) → ((i : ℕ) → b (at + i) ≡ getD xs i 0) → Spells b at xs
 unfolding Spells
 spells-own b at [] h = tt
 spells-own b at (x ∷ xs) h = (ap b (sym (add-zero at)) ∙ h 0, spells-own b (suc at) xs (λ i. ap b (let e : suc at + i ≡ at + suc i = omega arith in e) ∙ h (suc i)))

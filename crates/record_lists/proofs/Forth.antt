@@ -21,7 +21,8 @@ use Rattle.record_lists.specs.Shown.{spelt, spanned, showAny, showAll, s
 use Rattle.record_lists.specs.Clear.{firsts}
 use Rattle.record_lists.specs.Parse.{opens, valueOf, bitsAt, sameNumbers, same, begins, above, textOf, unitsOf, allBelow, goodSize, Got, no, got, peel, leaf, keep, feed, turn, several, perhaps, parse, parseFields, parsePick}
 
-nothing : {A B : Type 0} {v : A} {S : List Item} → no ≡ got v S → B
+-- where no value is got
+pub nothing : {A B : Type 0} {v : A} {S : List Item} → no ≡ got v S → B
 nothing h = let z : _≡_ {A = ℕ} 0 1 = cc in absurd (omega arith)
 
 -- two values of a truth
@@ -40,7 +41,7 @@ Keeps {A} P h p = (R : List Item) (v : A) (S : List Item) → p R ≡ got v S �
 
 ---------------------------------------------------------------- items
 
-numbers-same : (xs ys : List ℕ) → sameNumbers xs ys ≡ true → xs ≡ ys
+pub numbers-same : (xs ys : List ℕ) → sameNumbers xs ys ≡ true → xs ≡ ys
 unfolding sameNumbers
 numbers-same [] [] h = refl
 numbers-same [] (y ∷ ys) h = differ h
@@ -71,11 +72,11 @@ begins-inv i (j ∷ R) h = rw (same-inv i j h)
 ---------------------------------------------------------------- steps
 
 module _ {A : Type 0} where
-  cond-inv : (t : Bool) (x : Got A) {v : A} {S : List Item} → cond t x no ≡ got v S → (t ≡ true) × (x ≡ got v S)
+  pub cond-inv : (t : Bool) (x : Got A) {v : A} {S : List Item} → cond t x no ≡ got v S → (t ≡ true) × (x ≡ got v S)
   cond-inv true x h = (refl, h)
   cond-inv false x h = nothing h
 
-  peel-inv : (P : List Item) (a : A) (R : List Item) {v : A} {S : List Item} → peel P a R ≡ got v S → (v ≡ a) × (R ≡ P ++ S)
+  pub peel-inv : (P : List Item) (a : A) (R : List Item) {v : A} {S : List Item} → peel P a R ≡ got v S → (v ≡ a) × (R ≡ P ++ S)
   unfolding peel
   peel-inv [] a R h = (cc, cc)
   peel-inv (i ∷ P) a [] h = nothing h

@@ -14,17 +14,15 @@ use Rattle.x691.proofs.Widths.{unit-fits}
 use Rattle.record_lists.specs.Items.{Item, plain, bits}
 use Rattle.record_lists.specs.Kinds.{spanTag}
 use Rattle.record_lists.specs.Parse.{Got, no, got, valueIn, valueOf, same, begins, peel, leaf, keep}
-use Rattle.record_lists.proofs.Forth.{differ}
+use Rattle.record_lists.proofs.Forth.{differ, nothing}
 use Rattle.pens.specs.declared.Pen.{Pen}
 use Rattle.pens.specs.Rest.{items}
 use Rattle.pens.specs.Writes.{limit, Took, Writes, Inks}
 use Rattle.pens.proofs.RestLaws.{itemOf, items-end, items-cons}
-use Rattle.pens.proofs.PenLaws.{writes-still, writes-no, writes-got}
+use Rattle.pens.proofs.GotLaws.{writes-none}
+use Rattle.pens.proofs.PenLaws.{writes-still, writes-got}
 use Rattle.write_leaves.specs.declared.index.Indexed.{Indexed}
 use Rattle.write_leaves.specs.Index.{indexOf, Indexes}
-
-nothing : {A B : Type 0} {v : A} {S : List Item} → no ≡ got v S → B
-nothing h = let z : _≡_ {A = ℕ} 0 1 = cc in absurd (omega arith)
 
 -- the record in front, by its value word
 front : (b : ℕ → ℕ) (t e u f v s : ℕ) (S : List Item) → leaf (λ i. plain t e i 0 ∷ []) (λ i. true) (valueOf (itemOf b u f v s ∷ S)) (itemOf b u f v s ∷ S) ≡ cond (begins (plain t e v 0) (itemOf b u f v s ∷ S)) (got v S) no
@@ -72,7 +70,7 @@ module _ (b : ℕ → ℕ) (W : List ℕ) (m t e n : ℕ) where
     indexes-still h o v = record { writes = writes-still _ _ T m p X (q .p) Y h o; named = λ z l i S k. differ (sym z ∙ h); below = v }
 
     none : p .off ≡ false → indexOf t e n (T (p .next)) ≡ no → (q .p .off ≡ true) × (q .v ≡ 0) → 1 ≤ n → Indexes t e n b W m p X q Y
-    none h k o s = record { writes = writes-no _ _ T m p X (q .p) Y h k (o .0); named = λ z l i S j. nothing (sym k ∙ j); below = omega (arith, o .1, s) }
+    none h k o s = record { writes = writes-none _ _ T m p X (q .p) Y k (o .0); named = λ z l i S j. nothing (sym k ∙ j); below = omega (arith, o .1, s) }
 
     pub indexes-end : p .off ≡ false → m ≤ p .next → (q .p .off ≡ true) × (q .v ≡ 0) → 1 ≤ n → Indexes t e n b W m p X q Y
     indexes-end h l o s = none h (index-end (p .next) l) o s

@@ -16,7 +16,7 @@ use Rattle.bit_writer.specs.Put.{setBits}
 use Rattle.record_lists.specs.Clear.{firsts}
 use Rattle.record_lists.specs.Kinds.{spanTag}
 use Rattle.record_lists.specs.Parse.{sameNumbers, opens}
-use Rattle.record_lists.proofs.Forth.{differ}
+use Rattle.record_lists.proofs.Forth.{differ, numbers-same}
 use Rattle.node_tables.specs.Nodes.{membersFrom}
 use Rattle.node_tables.specs.Sure.{sureMember}
 use Rattle.pens.specs.declared.Pen.{Pen}
@@ -46,15 +46,6 @@ unfolding sureMember
 noted-tag G H kind a b c d h q =
     let z : not (spanTag a) && H d ≡ true = rw q at h in
     not-true (spanTag a) (both (not (spanTag a)) (H d) z .0)
-
-numbers-same : (xs ys : List ℕ) → sameNumbers xs ys ≡ true → xs ≡ ys
-unfolding sameNumbers
-numbers-same [] [] h = refl
-numbers-same [] (y ∷ ys) h = differ h
-numbers-same (x ∷ xs) [] h = differ h
-numbers-same (x ∷ xs) (y ∷ ys) h =
-    let c = both (eqb x y) (sameNumbers xs ys) h in
-    rw (eqb-true x y (c .0), numbers-same xs ys (c .1))
 
 module _ (f : Fmt) (tag e i n : ℕ) (s : ℕ → ℕ) (W : List ℕ) (m : ℕ) (p q r : Pen) (X Y Z : List ℕ) where
   pub repeat-none : n ≡ 0 → Repeats f e i n s W m p X p X 0

@@ -20,7 +20,7 @@ use Rattle.pens.specs.declared.Pen.{Pen}
 use Rattle.pens.specs.Rest.{items}
 use Rattle.pens.specs.Writes.{Writes, Inks, Part}
 use Rattle.pens.proofs.PenLaws.{then-writes}
-use Rattle.write_numbers.proofs.WriteLaws.{writes-as, writes-none, ink-writes}
+use Rattle.pens.proofs.GotLaws.{writes-as, writes-none, writes-ink}
 use Rattle.write_numbers.proofs.FrontLaws.{value, one, number-end, listed-end, number-front, name-front, listed-front}
 
 ---------------------------------------------------------------- numbers
@@ -75,29 +75,29 @@ module _ (b : ℕ → ℕ) (W : List ℕ) (m t e y : ℕ) (p : Pen) where
     pub number-written : {n : ℕ} {q r : Pen} {X Y : List ℕ} → v ≤ x → n ≡ width x → Writes (λ _. []) (λ R. peel (plain t e (value W (p .next)) 0 ∷ []) zero R) (λ i. items b W m i) m p X q X → Inks q X n v r Y → Part (num t lo hi) (e, y) b W m p X r Y
     unfolding encode turn
     number-written {n} {q} {r} {X} {Y} l k taken inked =
-        writes-as _ (number-got ∙ rw (le-leb v x l))
-        (then-writes (λ _. []) (λ a. bitsOf n a) _ _ (λ S. got v S) (λ _ a. a) (λ _ a. rw (k, wraps-extent lo hi x low x-word x-wraps)) (λ i. items b W m i) m p q r X X Y taken (ink-writes inked))
+        writes-as _ _ _ _ _ _ _ _ _ _ (sym (number-got ∙ rw (le-leb v x l))) (λ _ _ _. refl)
+        (then-writes (λ _. []) (λ a. bitsOf n a) _ _ (λ S. got v S) (λ _ a. a) (λ _ a. rw (k, wraps-extent lo hi x low x-word x-wraps)) (λ i. items b W m i) m p q r X X Y taken (writes-ink (λ a. bitsOf n a) v n v refl (λ i. items b W m i) m q X r Y inked))
 
     pub number-over : {r : Pen} {X Y : List ℕ} → x < v → r .off ≡ true → Part (num t lo hi) (e, y) b W m p X r Y
-    number-over l off = writes-none (number-got ∙ rw (lt-leb v x l)) off
+    number-over l off = writes-none _ _ _ _ _ _ _ _ (number-got ∙ rw (lt-leb v x l)) off
 
   pub number-missing : (lo hi : ℕ) {r : Pen} {X Y : List ℕ} → m ≤ p .next → r .off ≡ true → Part (num t lo hi) (e, y) b W m p X r Y
-  number-missing lo hi h off = writes-none (number-end b W m (p .next) t e y lo hi h) off
+  number-missing lo hi h off = writes-none _ _ _ _ _ _ _ _ (number-end b W m (p .next) t e y lo hi h) off
 
   -- a name is a number from 0 on
   pub name-written : (hi : ℕ) {r : Pen} {X Y : List ℕ} → value W (p .next) < 2 ^ 64 → Part (num t 0 hi) (e, y) b W m p X r Y → Part (name t hi) (e, y) b W m p X r Y
   name-written hi fits k =
-      writes-as _ (name-front b W m (p .next) t e y hi ∙ sym (number-front b W m (p .next) t e y 0 hi (omega arith) fits ∙ rw (above-zero (value W (p .next)) fits))) k
+      writes-as _ _ _ _ _ _ _ _ _ _ (sym (name-front b W m (p .next) t e y hi ∙ sym (number-front b W m (p .next) t e y 0 hi (omega arith) fits ∙ rw (above-zero (value W (p .next)) fits)))) (λ _ _ _. refl) k
 
   -- a reason that is listed is a name from 0 to 30
   pub reason-written : {r : Pen} {X Y : List ℕ} → (value W (p .next) ≡ 30) ⊎ (value W (p .next) < 2) → Part (name t 30) (e, y) b W m p X r Y → Part (listed t 30 reasons) (e, y) b W m p X r Y
   unfolding encode extent
   reason-written z k =
       let i = is-reason (value W (p .next)) z in
-      writes-as _ (listed-front b W m (p .next) t e y 30 reasons ∙ rw (i .0) (sym (name-front b W m (p .next) t e y 30 ∙ rw (i .1)))) k
+      writes-as _ _ _ _ _ _ _ _ _ _ (sym (listed-front b W m (p .next) t e y 30 reasons ∙ rw (i .0) (sym (name-front b W m (p .next) t e y 30 ∙ rw (i .1))))) (λ _ _ _. refl) k
 
   pub reason-other : {r : Pen} {X Y : List ℕ} → (value W (p .next) ≡ 30 → ⊥) → 2 ≤ value W (p .next) → r .off ≡ true → Part (listed t 30 reasons) (e, y) b W m p X r Y
-  reason-other u l off = writes-none (listed-front b W m (p .next) t e y 30 reasons ∙ rw (no-reason (value W (p .next)) u l)) off
+  reason-other u l off = writes-none _ _ _ _ _ _ _ _ (listed-front b W m (p .next) t e y 30 reasons ∙ rw (no-reason (value W (p .next)) u l)) off
 
   pub reason-missing : {r : Pen} {X Y : List ℕ} → m ≤ p .next → r .off ≡ true → Part (listed t 30 reasons) (e, y) b W m p X r Y
-  reason-missing h off = writes-none (listed-end b W m (p .next) t e y 30 reasons h) off
+  reason-missing h off = writes-none _ _ _ _ _ _ _ _ (listed-end b W m (p .next) t e y 30 reasons h) off

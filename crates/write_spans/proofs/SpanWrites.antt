@@ -18,7 +18,8 @@ use Rattle.record_lists.proofs.Forth.{differ}
 use Rattle.pens.specs.declared.Pen.{Pen}
 use Rattle.pens.specs.Rest.{items}
 use Rattle.pens.specs.Writes.{limit, Writes, Inks}
-use Rattle.pens.proofs.PenLaws.{writes-no, writes-got}
+use Rattle.pens.proofs.GotLaws.{writes-none}
+use Rattle.pens.proofs.PenLaws.{writes-got}
 use Rattle.write_spans.specs.Spans.{InksStretch, whole, first, size, Sends}
 use Rattle.write_spans.proofs.UnitLaws.{counted, units-whole}
 use Rattle.write_spans.proofs.StringLaws.{stringAt, string-unfit, string-empty, string-whole, string-other}
@@ -67,7 +68,7 @@ module _ (b : ℕ → ℕ) (bit : (i : ℕ) → b i < 2) (W : List ℕ) (m t e w
   StringWrites = Writes enc (λ R. stringAt fits t e w R) T m p X q Y
 
   pub string-refused : p .off ≡ false → fits k ≡ false → q .off ≡ true → StringWrites
-  string-refused h f o = writes-no enc (λ R. stringAt fits t e w R) T m p X q Y h (string-unfit fits t e w (T (p .next)) f) o
+  string-refused h f o = writes-none enc (λ R. stringAt fits t e w R) T m p X q Y (string-unfit fits t e w (T (p .next)) f) o
 
   -- an empty string takes no record
   pub string-none : {n v : ℕ} → p .off ≡ false → 0 ≡ k → fits 0 ≡ true → sizeOf 0 ≡ bitsOf n v → Inks p X n v q Y → StringWrites
@@ -117,4 +118,4 @@ module _ (b : ℕ → ℕ) (bit : (i : ℕ) → b i < 2) (W : List ℕ) (m t e w
           (record { on = x .on a; left = ap T (sym (x .takes a)); fits = omega (arith, i, x .takes a); wrote = λ u. let z = x .puts a (omega (arith, u, d)) in (omega (arith, z .0, d), z .1 ∙ rw j) })
       go false a =
           let r : stringAt fits t e w (T (p .next)) ≡ no = rw there (string-other fits t e w b bit from many (omega (arith, count, c)) (getD W (p .next * 4 + 1) 0) (T (p .next + 1)) unit fit (whole-no W (p .next) e w a)) in
-          writes-no enc (λ R. stringAt fits t e w R) T m p X q Y h r (x .refuses a)
+          writes-none enc (λ R. stringAt fits t e w R) T m p X q Y r (x .refuses a)

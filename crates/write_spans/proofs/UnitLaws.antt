@@ -14,6 +14,7 @@ use Rattle.x691.proofs.Widths.{width-pow}
 use Rattle.atn.specs.Reading.{units}
 use Rattle.atn.proofs.Inverse.{units-spelt}
 use Rattle.bit_writer.proofs.Stretches.{stretch-length, spells-stretch}
+use Rattle.record_lists.proofs.Back.{spells-own}
 use Rattle.record_lists.specs.Parse.{unitsOf, allBelow}
 use Rattle.record_lists.proofs.First.{length-span}
 
@@ -29,12 +30,6 @@ units-length w xs = length-units (λ i. getD xs i 0) w 0 (length xs / w)
 pub units-none : (w : ℕ) (xs : List ℕ) → length xs / w ≡ 0 → unitsOf w xs ≡ []
 unfolding unitsOf units
 units-none w xs h = rw h
-
--- the bits of a list stand at their places in it
-spells-own : (b : ℕ → ℕ) (at : ℕ) (xs : List ℕ) → ((i : ℕ) → b (at + i) ≡ getD xs i 0) → Spells b at xs
-unfolding Spells
-spells-own b at [] h = tt
-spells-own b at (x ∷ xs) h = (ap b (sym (add-zero at)) ∙ h 0, spells-own b (suc at) xs (λ i. ap b (let e : suc at + i ≡ at + suc i = omega arith in e) ∙ h (suc i)))
 
 units-below : (b : ℕ → ℕ) → ((i : ℕ) → b i < 2) → (w at i : ℕ) → allBelow (2 ^ w) (units b w at i) ≡ true
 unfolding units allBelow

@@ -9,12 +9,10 @@ ghost use Rattle.record_lists.specs.Parse.{bitsAt};
 ghost use Rattle.pens.specs.Rest.{items};
 ghost use Rattle.write_spans.specs.Spans.{whole, InksStretch, Sends};
 use bit_writer::span::put_span;
+use pens::LIMIT;
 use pens::Pen;
 use pens::ink;
 use pens::refuse;
-
-// No message has as many bits. Behind this place nothing is put.
-const LIMIT: usize = 4294967296;
 
 // How many units of w bits the span in record i, of m, has: none where the record's tag is another.
 pub fn units_at(words: &[u64], m: usize, i: usize, tag: u64, w: u64) -> u64

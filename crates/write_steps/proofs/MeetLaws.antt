@@ -16,7 +16,7 @@ use Rattle.record_lists.specs.Items.{Item, plain}
 use Rattle.record_lists.specs.Kinds.{spanTag}
 use Rattle.record_lists.specs.Clear.{firsts}
 use Rattle.record_lists.specs.Parse.{opens, begins, sameNumbers}
-use Rattle.record_lists.proofs.Forth.{differ}
+use Rattle.record_lists.proofs.Forth.{differ, numbers-same}
 use Rattle.node_tables.specs.declared.Node.{Node}
 use Rattle.node_tables.specs.Nodes.{memberOf}
 use Rattle.node_tables.specs.Sure.{sureMember}
@@ -27,17 +27,6 @@ use Rattle.pens.proofs.RestLaws.{items-drop}
 use Rattle.pens.proofs.MemberLaws.{members-must, members-some, members-none, members-noted, members-unnoted, members-unread}
 use Rattle.write_steps.specs.declared.meet.Met.{Met}
 use Rattle.write_steps.specs.Steps.{Meets}
-
----------------------------------------------------------------- what a member keeps
-
-numbers-same : (xs ys : List ℕ) → sameNumbers xs ys ≡ true → xs ≡ ys
-unfolding sameNumbers
-numbers-same [] [] h = refl
-numbers-same [] (y ∷ ys) h = differ h
-numbers-same (x ∷ xs) [] h = differ h
-numbers-same (x ∷ xs) (y ∷ ys) h =
-    let c = both (eqb x y) (sameNumbers xs ys) h in
-    rw (eqb-true x y (c .0), numbers-same xs ys (c .1))
 
 -- no item has a tag of none
 opens-none : (R : List Item) → opens [] R ≡ false

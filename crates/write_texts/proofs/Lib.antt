@@ -2,7 +2,6 @@ pub mod GotLaws
 pub mod WordLaws
 pub mod RecordLaws
 pub mod TextLaws
-pub mod PartLaws
 pub mod WordWrites
 pub mod RecordWrites
 pub mod TextWrites

@@ -11,7 +11,8 @@ use Rattle.record_lists.specs.Items.{Item, plain}
 use Rattle.record_lists.specs.Shown.{packed}
 use Rattle.record_lists.specs.Parse.{valueIn, valueOf, same, got, peel, feed, turn}
 use Rattle.write_texts.specs.Letters.{inRecord, inRecords}
-use Rattle.write_texts.proofs.GotLaws.{feed-inv, turn-inv, peel-inv}
+use Rattle.record_lists.proofs.Forth.{feed-inv, turn-inv}
+use Rattle.write_texts.proofs.GotLaws.{peel-one}
 use Rattle.write_texts.proofs.WordLaws.{word-inv, word-go}
 
 ---------------------------------------------------------------- the first eight characters, and the others
@@ -61,7 +62,7 @@ module _ (t e n c s : ℕ) where
   unfolding inRecord
   record-inv j R h =
       let a = feed-inv (peel (plain t e (valueOf R) s ∷ []) zero R) _ h in
-      let x = peel-inv (plain t e (valueOf R) s) zero R (a .2) in
+      let x = peel-one (plain t e (valueOf R) s) zero R (a .2) in
       let y = word-inv n c j 8 (valueOf R) (a .1) (a .3) in
       let f = y .0 in
       let g = y .3 in

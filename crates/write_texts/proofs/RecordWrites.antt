@@ -17,7 +17,7 @@ use Rattle.pens.proofs.RestLaws.{itemOf, items-end, items-cons}
 use Rattle.pens.proofs.PenLaws.{then-writes}
 use Rattle.write_texts.specs.Letters.{inWord, inRecord, inRecords}
 use Rattle.write_texts.proofs.GotLaws.{feed-same}
-use Rattle.write_texts.proofs.PartLaws.{writes-as, writes-none, writes-nothing}
+use Rattle.pens.proofs.GotLaws.{writes-as, writes-none, writes-nothing}
 
 units-join : (n : ℕ) (us vs : List ℕ) → unitBits n (us ++ vs) ≡ unitBits n us ++ unitBits n vs
 unfolding unitBits joined

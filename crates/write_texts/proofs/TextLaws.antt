@@ -14,10 +14,9 @@ use Rattle.record_lists.specs.Clear.{clear}
 use Rattle.record_lists.specs.Shown.{packed, spelt, shown}
 use Rattle.record_lists.specs.Parse.{Got, no, got, parse}
 use Rattle.record_lists.proofs.First.{Follows}
-use Rattle.record_lists.proofs.Forth.{forth}
+use Rattle.record_lists.proofs.Forth.{forth, nothing}
 use Rattle.record_lists.proofs.Back.{back}
 use Rattle.write_texts.specs.Letters.{inRecords}
-use Rattle.write_texts.proofs.GotLaws.{nothing}
 use Rattle.write_texts.proofs.RecordLaws.{records-inv, records-go}
 
 pub length-coded : (c : ℕ) (cs : List ℕ) → length (coded c cs) ≡ length cs

@@ -22,7 +22,7 @@ use Rattle.write_texts.specs.Letters.{inRecords}
 use Rattle.write_texts.proofs.GotLaws.{turn-same}
 use Rattle.write_texts.proofs.RecordLaws.{records-inv}
 use Rattle.write_texts.proofs.TextLaws.{length-coded, good-size, other-size}
-use Rattle.write_texts.proofs.PartLaws.{writes-as, writes-none, writes-ink}
+use Rattle.pens.proofs.GotLaws.{writes-as, writes-none, writes-ink}
 
 -- the second number of the front record is the size
 second-of : (b : ℕ → ℕ) (u f w r t e x k : ℕ) → itemOf b u f w r ≡ plain t e x k → k ≡ r

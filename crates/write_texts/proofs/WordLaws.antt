@@ -15,7 +15,7 @@ use Rattle.atn.proofs.Inverse.{both}
 use Rattle.record_lists.specs.Items.{Item}
 use Rattle.record_lists.specs.Parse.{got, feed, turn}
 use Rattle.write_texts.specs.Letters.{inOctet, inWord}
-use Rattle.write_texts.proofs.GotLaws.{nothing, cond-inv, feed-inv, turn-inv}
+use Rattle.record_lists.proofs.Forth.{nothing, cond-inv, feed-inv, turn-inv}
 
 ---------------------------------------------------------------- one octet
 

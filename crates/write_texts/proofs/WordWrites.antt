@@ -16,7 +16,7 @@ use Rattle.pens.specs.declared.Pen.{Pen}
 use Rattle.pens.specs.Writes.{Writes, Inks}
 use Rattle.pens.proofs.PenLaws.{then-writes}
 use Rattle.write_texts.specs.Letters.{inOctet, inWord}
-use Rattle.write_texts.proofs.PartLaws.{writes-as, writes-none, writes-nothing, writes-ink}
+use Rattle.pens.proofs.GotLaws.{writes-as, writes-none, writes-nothing, writes-ink}
 
 ---------------------------------------------------------------- one character
 

@@ -1,4 +1,4 @@
--- Laws of any part that is written.
+-- A part by what is got from the list: the same in other words, nothing, and bits that no record tells.
 use mathlib.Core.Path.{_≡_, refl, sym, ap, _∙_}
 use mathlib.Core.Bool.{true}
 use mathlib.Core.List.{List, []}
