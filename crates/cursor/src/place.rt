@@ -28,11 +28,12 @@ pub fn bits(s: &[u8], c: Cursor, n: usize) -> Got
         return Got { v: 0, c: c };
     }
     if n <= std::num::wrapping_sub_usize(end, at) {
+        let behind = std::num::wrapping_add_usize(at, n);
         let v = uint(s, at, n);
         return Got {
             v: v,
             c: Cursor {
-                at: std::num::wrapping_add_usize(at, n),
+                at: behind,
                 end: end,
                 why: 0,
                 marks: marks,

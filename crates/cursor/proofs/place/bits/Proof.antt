@@ -8,7 +8,7 @@ returns : tie.Need-returns
 returns c = pulls-stuck _ _ _ (c .if1 .taken)
 
 returns-2 : tie.Need-returns-2
-returns-2 c = pulls-got _ _ _ (c .before .before .before .before .if1 .left) (omega arith) (c .before .before .before .wrapping-sub-usize .ensures) (c .before .before .if2 .taken) (c .before .uint .ensures .0) (c .wrapping-add-usize .ensures)
+returns-2 c = pulls-got _ _ _ (c .before .before .before .before .if1 .left) (omega arith) (c .before .before .before .wrapping-sub-usize .ensures) (c .before .before .if2 .taken) (c .uint .ensures .0) (c .before .wrapping-add-usize .ensures)
 
 returns-3 : tie.Need-returns-3
 returns-3 c = pulls-short _ _ _ (c .before .before .if1 .left) (omega arith) (c .before .wrapping-sub-usize .ensures) (c .if2 .left)
