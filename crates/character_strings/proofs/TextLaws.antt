@@ -22,9 +22,10 @@ use Rattle.cursor.specs.declared.place.Got.{Got}
 use Rattle.field_ranges.specs.declared.table.Range.{Range}
 use Rattle.character_strings.specs.declared.TextAt.{TextAt}
 use Rattle.cursor.specs.Place.{put, stopped, marked, Inside, Pulled, stuck, short, got, Pulls, Led, stayed, went, failed, Reads}
+use Rattle.field_ranges.specs.Ranges.{widthOf}
 use Rattle.field_ranges.specs.Ends.{lowest, highest}
 use Rattle.character_strings.specs.Texts.{textRecs, channelRecs, InFrame, SizeRow, Texts, Channel, Sized, Ahead, Passed, Digits}
-use Rattle.field_ranges.proofs.WidthRule.{row-of}
+use Rattle.field_ranges.proofs.RowLaws.{lowest-of, highest-of}
 use Rattle.cursor.proofs.Laws.{reads-then, reads-same, reads-ok, pull-then, marked-nil}
 
 ---------------------------------------------------------------- a size
@@ -46,8 +47,7 @@ module _ {s : List ℕ} {c : Cursor} (g : Got) where
 
 module _ {r : Range} (z : SizeRow r) where
   ends : (r .lo ≡ lowest (r .row)) × (r .hi ≡ highest (r .row))
-  unfolding lowest highest
-  ends = (row-of (z .listed) .lowest, row-of (z .listed) .highest)
+  ends = (sym (lowest-of (z .listed)), sym (highest-of (z .listed)))
 
   pub size-lowest : r .lo ≤ 256
   size-lowest = omega (arith, z .ordered, z .most)
@@ -57,14 +57,14 @@ module _ {r : Range} (z : SizeRow r) where
   unfolding extent
   plain = rw (← ends .0, ← ends .1) (omega (arith, z .ordered, z .most))
 
-  pub size-narrow : r .width ≤ 8
+  narrow : widthOf r ≤ 8
   unfolding extent
-  size-narrow = rw (row-of (z .listed) .fewest) (width-le 8 _ (omega (arith, z .some, z .ordered, z .most)))
+  narrow = width-le 8 _ (omega (arith, z .some, z .ordered, z .most))
 
-  pulled : {s : List ℕ} {c : Cursor} (g : Got) → Pulls s c (r .width) g → Pulls s c (width (highest (r .row) - lowest (r .row))) (record { v = g .v % 256; c = g .c })
-  pulled g p = rw (row-of (z .listed) .fewest, plain) at (clipped size-narrow p)
+  pulled : {s : List ℕ} {c : Cursor} (g : Got) → Pulls s c (widthOf r) g → Pulls s c (width (highest (r .row) - lowest (r .row))) (record { v = g .v % 256; c = g .c })
+  pulled g p = rw plain at (clipped narrow p)
 
-  pub size-in : {s : List ℕ} {c : Cursor} {v : ℕ} (g : Got) → Pulls s c (r .width) g → v ≡ r .lo + g .v % 256 → v ≤ r .hi → Sized (r .row) s c (record { v = v; c = g .c })
+  pub size-in : {s : List ℕ} {c : Cursor} {v : ℕ} (g : Got) → Pulls s c (widthOf r) g → v ≡ r .lo + g .v % 256 → v ≤ r .hi → Sized (r .row) s c (record { v = v; c = g .c })
   unfolding over unless
   size-in {v = v} g p q l =
       let w : v ≡ lowest (r .row) + g .v % 256 = rw (ends .0) at q in
@@ -75,7 +75,7 @@ module _ {r : Range} (z : SizeRow r) where
         few = omega (arith, z .ordered, z .most);
       }
 
-  pub size-over : {s : List ℕ} {c d : Cursor} {v : ℕ} (g : Got) → Pulls s c (r .width) g → v ≡ r .lo + g .v % 256 → r .hi < v → d ≡ marked (g .c) 1 → Sized (r .row) s c (record { v = v; c = d })
+  pub size-over : {s : List ℕ} {c d : Cursor} {v : ℕ} (g : Got) → Pulls s c (widthOf r) g → v ≡ r .lo + g .v % 256 → r .hi < v → d ≡ marked (g .c) 1 → Sized (r .row) s c (record { v = v; c = d })
   unfolding over unless mark
   size-over {v = v} g p q l e =
       let w : v ≡ lowest (r .row) + g .v % 256 = rw (ends .0) at q in

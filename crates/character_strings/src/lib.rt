@@ -34,7 +34,7 @@ pub fn size(s: &[u8], c: Cursor, range: Range) -> Got
     requires { ⌜ SizeRow range ⌝ }
     ensures { λ r. ⌜ Sized (range .row) (now (s .entry)) c r ⌝ }
 {
-    let g = bits(s, c, range.width);
+    let g = bits(s, c, range.width());
     // of eight bits at most, so the remainder is the number: it bounds the size for callers who know nothing of the window
     let v = range.lo + g.v % 256;
     let d = g.c;

@@ -3,6 +3,8 @@ use mathlib.Core.Path.{_≡_, refl, _∙_}
 use mathlib.Core.List.{List}
 use Prim.Native.Nat.{ℕ, _+_, _/_, _%_}
 use native.Mathlib.Omega.{arith}
+use Rattle.x691.specs.Types.{extent}
+use Rattle.x691.specs.Encoding.{width, widthIn}
 use Rattle.atn.specs.Reading.{flags}
 use Rattle.cursor.specs.declared.place.Cursor.{Cursor}
 use Rattle.cursor.specs.declared.place.Got.{Got}
@@ -41,6 +43,7 @@ pub at-once : {s : List ℕ} {c : Cursor} {first second : Got} (year month day h
     → FromLowest (rowAt 5) (hours .c) (second .v / 64) minutes
     → FromLowest (rowAt 5) (minutes .c) (second .v % 64) seconds
     → DateTimes s c (time year month day hours minutes seconds)
+unfolding extent width widthIn
 at-once {s} {c} {first} {second} year month day hours minutes seconds p h q k y m d u n z = record { takes = takes-inside λ i. go i .takes }
   where
     go : Inside s c → DateTimes s c (time year month day hours minutes seconds)

@@ -20,7 +20,6 @@ use Rattle.cursor.specs.declared.place.Cursor.{Cursor}
 use Rattle.cursor.specs.declared.place.Got.{Got}
 use Rattle.cursor.specs.Place.{number, put, marked, Inside, Led, stayed, went, failed, Reads}
 use Rattle.field_ranges.specs.Ends.{lowest, highest}
-use Rattle.field_ranges.proofs.WidthRule.{row-of}
 use Rattle.cursor.proofs.Laws.{reads-ok, marked-nil}
 use Rattle.length_determinants.proofs.LengthLaws.{takes-small}
 use Rattle.answers.specs.Says.{answerOf}
@@ -46,7 +45,7 @@ told-alone s c v = reads-ok _ 0 (marked-nil c)
 -- the contracts allow what the definitions give, and nothing else
 only-given : (q : Question) → Only q (given q)
 unfolding given mark
-only-given (range lo hi) = λ r x e f. ap bits (row-of x .fewest ∙ rw (e, f))
+only-given (range lo hi) = λ r n e f x. ap bits (x ∙ rw (e, f))
 only-given (field lo hi r) = λ k g e f x. reads-one _ (raw-bytes r) (raw-place (width (extent lo hi))) (g .c) (g .v) (omega arith) (rw (e, f) at (x .number 0 .took (0, 0)))
 only-given (count-of lo hi r) = λ k g e f x.
     reads-one _ (raw-bytes r) (raw-place (width (hi - lo))) (g .c) (g .v) (omega arith) (rw (e, f) at (x .size (λ n u p. alone n u p) (told-alone (raw-bytes r) (g .c) (g .v))))

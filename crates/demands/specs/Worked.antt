@@ -14,7 +14,7 @@ use Rattle.cursor.specs.declared.place.Got.{Got}
 use Rattle.field_ranges.specs.declared.table.Range.{Range}
 use Rattle.length_determinants.specs.declared.Measured.{Measured}
 use Rattle.cursor.specs.Place.{marked}
-use Rattle.field_ranges.specs.Ranges.{Listed}
+use Rattle.field_ranges.specs.Ranges.{widthOf}
 use Rattle.field_ranges.specs.Ends.{lowest, highest}
 use Rattle.ranged_numbers.specs.Numbers.{Ranged}
 use Rattle.length_determinants.specs.Lengths.{Measures, Smalls}
@@ -35,8 +35,8 @@ of-got g = found (g .c .why) (g .c .marks) (g .v)
 
 -- whatever result the contract of the code allows, it is written as a
 abbrev pub Only : Question → Written → Type 0
--- the table of `field_ranges`
-Only (range lo hi) a = (r : Range) → Listed r → r .lo ≡ lo → r .hi ≡ hi → bits (r .width) ≡ a
+-- `field_ranges::table::Range::width`
+Only (range lo hi) a = (r : Range) (n : ℕ) → r .lo ≡ lo → r .hi ≡ hi → n ≡ widthOf r → bits n ≡ a
 -- `ranged_numbers::ranged`
 Only (field lo hi r) a = (k : ℕ) (g : Got) → lowest k ≡ lo → highest k ≡ hi → Ranged k (raw-bytes r) (from (raw-bytes r) (raw-place (width (extent lo hi)))) g → of-got g ≡ a
 -- `character_strings::size`

@@ -1,2 +1,1 @@
-pub mod WidthRule
 pub mod RowLaws

@@ -12,7 +12,6 @@ ghost use Rattle.pens.specs.Writes.{Inks, Writes};
 use bit_writer::number::put;
 
 pub mod places; // places.rt: bits that are put before others
-pub mod width; // width.rt: how many bits a number takes
 
 // The next record, the place of the next bit, and whether the list is refused.
 pub struct Pen {

@@ -1,32 +1,22 @@
 -- A number of a range and a name, from the bits that were pulled for them.
-use mathlib.Core.Path.{_≡_, refl, sym, _∙_}
+use mathlib.Core.Path.{_≡_, refl, _∙_}
 use mathlib.Core.List.{List, [], _∷_}
-use Prim.Native.Nat.{ℕ, _+_, _%_, _^_, _≤_, _<_}
+use Prim.Native.Nat.{ℕ, _+_, _≤_, _<_}
 use native.Mathlib.Omega.{arith}
 use lib.Dec.{leb}
 use borrow.Author.Tests.{le-leb, lt-leb}
 use Rattle.x691.specs.Types.{extent}
 use Rattle.x691.specs.Encoding.{width}
-use Rattle.per.proofs.Widths.{width-le}
 use Rattle.atn.specs.Format.{num, name, bad}
 use Rattle.atn.specs.Reading.{Rec, rec, ok, guard, word, over, unless, mark, read}
 use Rattle.cursor.specs.declared.place.Cursor.{Cursor}
 use Rattle.cursor.specs.declared.place.Got.{Got}
 use Rattle.field_ranges.specs.declared.table.Range.{Range}
 use Rattle.cursor.specs.Place.{number, marked, stopped, Pulls, Takes}
-use Rattle.field_ranges.specs.Ends.{lowest, highest}
+use Rattle.field_ranges.specs.Ranges.{Listed, widthOf}
 use Rattle.ranged_numbers.specs.Numbers.{FromLowest, Ranged, Named}
-use Rattle.field_ranges.proofs.WidthRule.{Row}
+use Rattle.field_ranges.proofs.RowLaws.{lowest-of, highest-of}
 use Rattle.cursor.proofs.Laws.{reads-ok, reads-stop, pull-then, marked-nil}
-
--- the difference that wraps is the extent
-pub wraps-extent : (lo hi top : ℕ) → lo < 2 ^ 64 → hi < 2 ^ 64 → top < 2 ^ 64 → (top + lo) % 2 ^ 64 ≡ hi → top ≡ extent lo hi
-unfolding extent
-wraps-extent lo hi top a b c h = omega arith
-
-pub width-few : (lo hi : ℕ) → width (extent lo hi) ≤ 64
-unfolding extent
-width-few lo hi = width-le 64 _ (omega arith)
 
 -- mark 1 above the extent alone
 pub in-extent : {d top v : ℕ} → top ≡ d → v ≤ top → over d v ≡ 0
@@ -60,30 +50,19 @@ module _ {s : List ℕ} {c d : Cursor} (g : Got) where
             (rw (lt-leb (g .v) (extent 0 hi) l) (reads-stop bad (mark 1) (λ z. omega arith) q));
       }
 
-module _ {k : ℕ} {r : Range} (row : Row k r) {s : List ℕ} {c : Cursor} (g : Got) (p : Pulls s c (r .width) g) where
-  pulled : Pulls s c (width (extent (lowest k) (highest k))) g
-  unfolding lowest highest
-  pulled = rw (row .fewest, row .lowest, row .highest) at p
-
+module _ {r : Range} (listed : Listed r) {s : List ℕ} {c : Cursor} (g : Got) (p : Pulls s c (widthOf r) g) where
   -- and what was told of it
-  pub ranged-told : {t : Got} → FromLowest r (g .c) (g .v) t → Ranged k s c t
-  unfolding lowest highest
+  pub ranged-told : {t : Got} → FromLowest r (g .c) (g .v) t → Ranged (r .row) s c t
   ranged-told {t} h =
-      let w : word (lowest k + g .v) ≡ t .v = rw (← row .lowest) (sym (h .number)) in
-      record { number = λ n. rw w at (takes-num g n (lowest k) (highest k) pulled (rw (row .lowest, row .highest) at (h .marks))) }
+      record { number = λ n. rw (lowest-of listed, highest-of listed, h .number) (takes-num g n (r .lo) (r .hi) p (h .marks)) }
 
   module _ (from : r .lo ≡ 0) where
-    zero : lowest k ≡ 0
-    unfolding lowest
-    zero = sym (row .lowest) ∙ from
+    from-zero : Pulls s c (width (extent 0 (r .hi))) g
+    from-zero = rw from at p
 
-    from-zero : Pulls s c (width (extent 0 (highest k))) g
-    from-zero = rw zero at pulled
+    pub named-in : {top : ℕ} → top ≡ extent (r .lo) (r .hi) → g .v ≤ top → Named (r .row) s c (record { v = g .v; c = g .c })
+    named-in z l = record { name = λ t. rw (highest-of listed) (takes-name g t (r .hi) from-zero (rw (z, from) at l) refl) }
 
-    pub named-in : {top : ℕ} → top ≡ extent (r .lo) (r .hi) → g .v ≤ top → Named k s c (record { v = g .v; c = g .c })
-    unfolding lowest highest
-    named-in z l = record { name = λ t. takes-name g t (highest k) from-zero (rw (from, row .highest) at (rw z at l)) refl }
-
-    pub named-over : {top : ℕ} {d : Cursor} → top ≡ extent (r .lo) (r .hi) → top < g .v → d ≡ stopped (g .c) 5 1 → Named k s c (record { v = g .v; c = d })
-    unfolding lowest highest mark
-    named-over z l e = record { name = λ t. takes-unnamed g t (highest k) from-zero (rw (from, row .highest) at (rw z at l)) e }
+    pub named-over : {top : ℕ} {d : Cursor} → top ≡ extent (r .lo) (r .hi) → top < g .v → d ≡ stopped (g .c) 5 1 → Named (r .row) s c (record { v = g .v; c = d })
+    unfolding mark
+    named-over z l e = record { name = λ t. rw (highest-of listed) (takes-unnamed g t (r .hi) from-zero (rw (z, from) at l) e) }

@@ -13,8 +13,7 @@ use Rattle.cursor.specs.declared.place.Cursor.{Cursor}
 use Rattle.cursor.specs.declared.place.Got.{Got}
 use Rattle.cursor.specs.Place.{put, marked, stopped, Inside, Pulled, stuck, short, got, Pulls, Takes}
 use Rattle.field_ranges.specs.declared.table.Range.{Range}
-use Rattle.field_ranges.specs.Ranges.{Listed}
-use Rattle.field_ranges.proofs.WidthRule.{row-of}
+use Rattle.field_ranges.specs.Ranges.{Listed, widthOf}
 use Rattle.ranged_numbers.specs.Numbers.{FromLowest, Ranged}
 use Rattle.ranged_numbers.proofs.NumberLaws.{ranged-told}
 
@@ -54,11 +53,11 @@ unfolding marked stopped
 told-at c e t = t .marks ∙ rw e
 
 -- It is the number that is read from d, which has the same marks, up to q, if its bits stand there.
-pub ranged-at : {s : List ℕ} {b d : Cursor} (c : Cursor) {p m v : ℕ} {r : Range} {g : Got} (q : ℕ) → d ≡ put c p 0 m → Listed r → FromLowest r b v g → Stands s (c .end) p (r .width) v → p + r .width ≡ q
+pub ranged-at : {s : List ℕ} {b d : Cursor} (c : Cursor) {p m v : ℕ} {r : Range} {g : Got} (q : ℕ) → d ≡ put c p 0 m → Listed r → FromLowest r b v g → Stands s (c .end) p (widthOf r) v → p + widthOf r ≡ q
     → Ranged (r .row) s d (record { v = g .v; c = put c q 0 (or m (over (extent (r .lo) (r .hi)) v)) })
 unfolding marked stopped
 ranged-at c {p} {m} {v} {r} q e l t h z =
-    rw (e, ← z) (ranged-told (row-of l) (record { v = v; c = put c (p + r .width) 0 m }) (record { gave = λ i. got refl (h .room) (h .spelt) refl }) (record { number = t .number; marks = refl }))
+    rw (e, ← z) (ranged-told l (record { v = v; c = put c (p + widthOf r) 0 m }) (record { gave = λ i. got refl (h .room) (h .spelt) refl }) (record { number = t .number; marks = refl }))
 
 -- that the cursor is inside its window may be used
 pub takes-inside : {f : Fmt} {s : List ℕ} {c d : Cursor} {T : ℕ → List Rec} → (Inside s c → Takes f s c d T) → Takes f s c d T

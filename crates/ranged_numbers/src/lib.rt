@@ -13,9 +13,12 @@ use field_ranges::table::Range;
 pub fn from_lowest(c: Cursor, above: u64, range: Range) -> Got
     ensures { λ r. ⌜ FromLowest range c above r ⌝ }
 {
-    let top = std::num::wrapping_sub_u64(range.hi, range.lo);
     let v = std::num::wrapping_add_u64(range.lo, above);
-    if above <= top {
+    // there is no mark where the reading has stopped; asked first, the reader of a known range comes out smaller
+    if c.why != 0 {
+        return Got { v: v, c: c };
+    }
+    if above <= range.extent() {
         return Got { v: v, c: c };
     }
     let m = mark(c, 1);
@@ -27,7 +30,7 @@ pub fn ranged(s: &[u8], c: Cursor, range: Range) -> Got
     requires { ⌜ Listed range ⌝ }
     ensures { λ r. ⌜ Ranged (range .row) (now (s .entry)) c r ⌝ }
 {
-    let g = bits(s, c, range.width);
+    let g = bits(s, c, range.width());
     from_lowest(g.c, g.v, range)
 }
 
@@ -36,11 +39,10 @@ pub fn named(s: &[u8], c: Cursor, range: Range) -> Got
     requires { ⌜ Listed range × (range .lo ≡ 0) ⌝ }
     ensures { λ r. ⌜ Named (range .row) (now (s .entry)) c r ⌝ }
 {
-    let top = std::num::wrapping_sub_u64(range.hi, range.lo);
-    let g = bits(s, c, range.width);
+    let g = bits(s, c, range.width());
     let v = g.v;
     let d = g.c;
-    if v <= top {
+    if v <= range.extent() {
         return Got { v: v, c: d };
     }
     let m = stop(d, 5, 1);

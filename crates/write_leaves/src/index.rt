@@ -9,7 +9,7 @@ use pens::Pen;
 use pens::ink;
 use pens::is_record;
 use pens::refuse;
-use pens::width::bits_for;
+use per::width::bits_for;
 
 pub struct Indexed {
     pub v: u64,

@@ -21,7 +21,7 @@ use pens::places::place;
 use pens::places::put_at;
 use pens::places::skip;
 use pens::refuse;
-use pens::width::bits_for;
+use per::width::bits_for;
 use write_leaves::leaf::write_leaf;
 use write_steps::lead::lead;
 use write_steps::meet::meet;

@@ -11,7 +11,7 @@ use pens::Pen;
 use pens::ink;
 use pens::refuse;
 use pens::take;
-use pens::width::bits_for;
+use per::width::bits_for;
 use std::num::wrapping_sub_u64;
 
 // A number from lo to hi.

@@ -12,7 +12,7 @@ ghost use Rattle.pens.specs.Writes.{Part};
 use pens::Pen;
 use pens::ink;
 use pens::refuse;
-use pens::width::bits_for;
+use per::width::bits_for;
 use units::put_whole;
 use units::units_at;
 

@@ -9,7 +9,7 @@ ghost use Rattle.pens.specs.Writes.{Part};
 use pens::Pen;
 use pens::ink;
 use pens::refuse;
-use pens::width::bits_for;
+use per::width::bits_for;
 
 mod word; // word.rt: the characters of one word
 mod record; // record.rt: the characters of records, eight to a record

@@ -9,7 +9,7 @@ ghost use Rattle.write_texts.specs.Letters.{inOctet, inWord};
 use pens::Pen;
 use pens::ink;
 use pens::refuse;
-use pens::width::bits_for;
+use per::width::bits_for;
 
 // The character x, of the n from code c on.
 fn write_character(out: &mut [u8], p: Pen, x: u64, n: u64, c: u64) -> Pen

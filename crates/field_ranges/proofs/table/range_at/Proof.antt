@@ -1,5 +1,5 @@
 use borrow.Author.Needs.{needs}
-use Rattle.field_ranges.proofs.WidthRule.{in-place}
+use Rattle.field_ranges.proofs.RowLaws.{in-place}
 use Rattle.field_ranges.proofs.table.range_at.Statement.{statement}
 use Rattle.field_ranges.proofs.table.range_at.Tie as tie
 

@@ -8,7 +8,7 @@ use Rattle.write_leaves.proofs.index.write_index.Reads as reads
 use Rattle.write_leaves.proofs.index.write_index.Lts as lts
 use Rattle.pens.proofs.ink.Reads as ink-reads
 use Rattle.pens.proofs.is_record.Reads as is-record-reads
-use Rattle.pens.proofs.width.bits_for.Reads as bits-for-reads
+use Rattle.per.proofs.width.bits_for.Reads as bits-for-reads
 use Rattle.write_leaves.proofs.index.none.Reads as none-reads
 
 -- src/index.rt:25:9

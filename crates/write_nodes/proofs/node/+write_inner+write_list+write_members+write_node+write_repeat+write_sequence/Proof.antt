@@ -39,7 +39,7 @@ use Rattle.pens.proofs.places.place.Reads as place-reads
 use Rattle.pens.proofs.places.put_at.Reads as put-at-reads
 use Rattle.pens.proofs.places.skip.Reads as skip-reads
 use Rattle.pens.proofs.refuse.Reads as refuse-reads
-use Rattle.pens.proofs.width.bits_for.Reads as bits-for-reads
+use Rattle.per.proofs.width.bits_for.Reads as bits-for-reads
 use Rattle.write_leaves.proofs.leaf.write_leaf.Reads as write-leaf-reads
 use Rattle.write_steps.proofs.lead.lead.Reads as lead-reads
 use Rattle.write_steps.proofs.meet.meet.Reads as meet-reads

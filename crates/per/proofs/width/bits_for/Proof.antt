@@ -1,11 +1,11 @@
--- `pens::width::bits_for` meets its contract: of 64 bits, those above a number's width are zeros.
+-- `per::width::bits_for` meets its contract: of 64 bits, those above a number's width are zeros.
 use native.Mathlib.Nat.{le-trans}
 use native.Mathlib.Omega.{arith}
 use lib.Count.{leading-le}
 use borrow.Author.Needs.{needs}
 use Rattle.per.proofs.Widths.{width-leading, width-le}
-use Rattle.pens.proofs.width.bits_for.Statement.{statement}
-use Rattle.pens.proofs.width.bits_for.Tie as tie
+use Rattle.per.proofs.width.bits_for.Statement.{statement}
+use Rattle.per.proofs.width.bits_for.Tie as tie
 
 sub-result : tie.Need-sub-result
 sub-result c = le-trans (leading-le 64 _) (omega arith)
