@@ -1,4 +1,5 @@
 pub mod RestLaws
+pub mod FrontLaws
 pub mod GotLaws
 pub mod PenLaws
 pub mod PartLaws

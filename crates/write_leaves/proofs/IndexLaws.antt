@@ -1,69 +1,54 @@
 -- The index of an alternative, from the record in front.
 use mathlib.Core.Path.{_≡_, refl, sym, ap, _∙_}
 use mathlib.Core.Bool.{Bool, true, false, cond}
-use mathlib.Core.List.{List, [], _∷_}
-use Prim.Native.Nat.{ℕ, zero, suc, _+_, _-_, _*_, _^_, _≤_, _<_}
+use mathlib.Core.List.{List}
+use Prim.Native.Nat.{ℕ, suc, _+_, _-_, _^_, _≤_, _<_}
 use native.Mathlib.Omega.{arith}
-use lib.ListN.{length, getD}
 use lib.Dec.{ltb}
-use borrow.Author.Tests.{lt-ltb, le-ltb, ltb-true}
-use Rattle.x691.specs.Bits.{bitsOf, stretch}
+use borrow.Author.Tests.{lt-ltb, le-ltb}
+use Rattle.x691.specs.Bits.{bitsOf}
 use Rattle.x691.specs.Encoding.{width}
 use Rattle.x691.proofs.BitLaws.{length-bitsOf}
 use Rattle.x691.proofs.Widths.{unit-fits}
-use Rattle.record_lists.specs.Items.{Item, plain, bits}
-use Rattle.record_lists.specs.Kinds.{spanTag}
-use Rattle.record_lists.specs.Parse.{Got, no, got, valueIn, valueOf, same, begins, peel, leaf, keep}
+use Rattle.record_lists.specs.Items.{Item, plain}
+use Rattle.record_lists.specs.Parse.{Got, no, got, begins, keep}
 use Rattle.record_lists.proofs.Forth.{differ, nothing}
 use Rattle.pens.specs.declared.Pen.{Pen}
 use Rattle.pens.specs.Rest.{items}
 use Rattle.pens.specs.Writes.{limit, Took, Writes, Inks}
-use Rattle.pens.proofs.RestLaws.{itemOf, items-end, items-cons}
+use Rattle.pens.proofs.FrontLaws.{value, leaf-end, leaf-front, one-begins}
 use Rattle.pens.proofs.GotLaws.{writes-none}
 use Rattle.pens.proofs.PenLaws.{writes-still, writes-got}
 use Rattle.write_leaves.specs.declared.index.Indexed.{Indexed}
 use Rattle.write_leaves.specs.Index.{indexOf, Indexes}
 
--- the record in front, by its value word
-front : (b : ℕ → ℕ) (t e u f v s : ℕ) (S : List Item) → leaf (λ i. plain t e i 0 ∷ []) (λ i. true) (valueOf (itemOf b u f v s ∷ S)) (itemOf b u f v s ∷ S) ≡ cond (begins (plain t e v 0) (itemOf b u f v s ∷ S)) (got v S) no
-unfolding leaf peel valueOf begins same valueIn
-front b t e u f v s S = go (spanTag u)
-  where
-    go : (a : Bool) → cond (same (plain t e (valueIn (cond a (bits u f (stretch b v s)) (plain u f v s))) 0) (cond a (bits u f (stretch b v s)) (plain u f v s))) (got (valueIn (cond a (bits u f (stretch b v s)) (plain u f v s))) S) no
-        ≡ cond (same (plain t e v 0) (cond a (bits u f (stretch b v s)) (plain u f v s))) (got v S) no
-    go true = refl
-    go false = refl
-
 module _ (b : ℕ → ℕ) (W : List ℕ) (m t e n : ℕ) where
   abbrev T : ℕ → List Item
   T j = items b W m j
 
-  abbrev word : ℕ → ℕ
-  word i = getD W (i * 4 + 2) 0
-
-  index-at : (i : ℕ) → i < m → indexOf t e n (T i) ≡ keep (λ j. ltb j n) (cond (begins (plain t e (word i) 0) (T i)) (got (word i) (T (suc i))) no)
+  index-at : (i : ℕ) → i < m → indexOf t e n (T i) ≡ keep (λ j. ltb j n) (cond (begins (plain t e (value W i) 0) (T i)) (got (value W i) (T (suc i))) no)
   unfolding indexOf
-  index-at i h = rw (items-cons b W m i h) (ap (λ (g : Got ℕ). keep (λ j. ltb j n) g) (front b t e (getD W (i * 4) 0) (getD W (i * 4 + 1) 0) (word i) (getD W (i * 4 + 3) 0) (T (suc i))))
+  index-at i h = ap (λ (g : Got ℕ). keep (λ j. ltb j n) g) (leaf-front t e (λ v. v) (λ _. true) (λ v. v) b W m i refl ∙ one-begins b W m i (plain t e (value W i) 0) (value W i) h)
 
   index-end : (i : ℕ) → m ≤ i → indexOf t e n (T i) ≡ no
-  unfolding indexOf leaf peel keep
-  index-end i h = rw (items-end b W m i h)
+  unfolding indexOf keep
+  index-end i h = ap (λ (g : Got ℕ). keep (λ j. ltb j n) g) (leaf-end t e (λ v. v) (λ _. true) (λ v. v) b W m i h)
 
-  index-high : (i : ℕ) → i < m → n ≤ word i → indexOf t e n (T i) ≡ no
+  index-high : (i : ℕ) → i < m → n ≤ value W i → indexOf t e n (T i) ≡ no
   unfolding keep
-  index-high i h l = index-at i h ∙ go (begins (plain t e (word i) 0) (T i))
+  index-high i h l = index-at i h ∙ go (begins (plain t e (value W i) 0) (T i))
     where
-      go : (a : Bool) → keep (λ j. ltb j n) (cond a (got (word i) (T (suc i))) no) ≡ no
-      go true = rw (le-ltb (word i) n l)
+      go : (a : Bool) → keep (λ j. ltb j n) (cond a (got (value W i) (T (suc i))) no) ≡ no
+      go true = rw (le-ltb (value W i) n l)
       go false = refl
 
-  index-other : (i : ℕ) → i < m → begins (plain t e (word i) 0) (T i) ≡ false → indexOf t e n (T i) ≡ no
+  index-other : (i : ℕ) → i < m → begins (plain t e (value W i) 0) (T i) ≡ false → indexOf t e n (T i) ≡ no
   unfolding keep
   index-other i h k = index-at i h ∙ rw k
 
-  index-got : (i : ℕ) → i < m → word i < n → begins (plain t e (word i) 0) (T i) ≡ true → indexOf t e n (T i) ≡ got (word i) (T (suc i))
+  index-got : (i : ℕ) → i < m → value W i < n → begins (plain t e (value W i) 0) (T i) ≡ true → indexOf t e n (T i) ≡ got (value W i) (T (suc i))
   unfolding keep
-  index-got i h l k = index-at i h ∙ rw (k, lt-ltb (word i) n l)
+  index-got i h l k = index-at i h ∙ rw (k, lt-ltb (value W i) n l)
 
   module _ (p : Pen) (X : List ℕ) (q : Indexed) (Y : List ℕ) where
     pub indexes-still : p .off ≡ true → q .p .off ≡ true → q .v < n → Indexes t e n b W m p X q Y
@@ -75,14 +60,14 @@ module _ (b : ℕ → ℕ) (W : List ℕ) (m t e n : ℕ) where
     pub indexes-end : p .off ≡ false → m ≤ p .next → (q .p .off ≡ true) × (q .v ≡ 0) → 1 ≤ n → Indexes t e n b W m p X q Y
     indexes-end h l o s = none h (index-end (p .next) l) o s
 
-    pub indexes-high : p .off ≡ false → p .next < m → n ≤ word (p .next) → (q .p .off ≡ true) × (q .v ≡ 0) → 1 ≤ n → Indexes t e n b W m p X q Y
+    pub indexes-high : p .off ≡ false → p .next < m → n ≤ value W (p .next) → (q .p .off ≡ true) × (q .v ≡ 0) → 1 ≤ n → Indexes t e n b W m p X q Y
     indexes-high h l k o s = none h (index-high (p .next) l k) o s
 
-    pub indexes-other : p .off ≡ false → p .next < m → begins (plain t e (word (p .next)) 0) (T (p .next)) ≡ false → (q .p .off ≡ true) × (q .v ≡ 0) → 1 ≤ n → Indexes t e n b W m p X q Y
+    pub indexes-other : p .off ≡ false → p .next < m → begins (plain t e (value W (p .next)) 0) (T (p .next)) ≡ false → (q .p .off ≡ true) × (q .v ≡ 0) → 1 ≤ n → Indexes t e n b W m p X q Y
     indexes-other h l k o s = none h (index-other (p .next) l k) o s
 
-    pub indexes-got : (r : Pen) → p .off ≡ false → p .next < m → word (p .next) < n → begins (plain t e (word (p .next)) 0) (T (p .next)) ≡ true
-        → Inks p X (width (n - 1)) (word (p .next)) r Y → q .v ≡ word (p .next) → q .p .next ≡ p .next + 1 → q .p .at ≡ r .at → q .p .off ≡ false → Indexes t e n b W m p X q Y
+    pub indexes-got : (r : Pen) → p .off ≡ false → p .next < m → value W (p .next) < n → begins (plain t e (value W (p .next)) 0) (T (p .next)) ≡ true
+        → Inks p X (width (n - 1)) (value W (p .next)) r Y → q .v ≡ value W (p .next) → q .p .next ≡ p .next + 1 → q .p .at ≡ r .at → q .p .off ≡ false → Indexes t e n b W m p X q Y
     indexes-got r h l k g a v x y o =
         let j = index-got (p .next) l k g in
         let s : suc (p .next) ≡ q .p .next = omega (arith, x) in
@@ -93,11 +78,11 @@ module _ (b : ℕ → ℕ) (W : List ℕ) (m t e n : ℕ) where
                 left = ap (λ (c : ℕ). T c) s;
                 fits = omega (arith, l, x);
                 wrote = λ z.
-                    let c = length-bitsOf (width (n - 1)) (word (p .next)) in
+                    let c = length-bitsOf (width (n - 1)) (value W (p .next)) in
                     let d = a .puts (omega (arith, z)) in
                     (omega (arith, y, d .0, c), d .1);
               });
-          named = λ _ _ i S c. let u : i ≡ word (p .next) = sames (sym c ∙ j) in u ∙ sym v;
+          named = λ _ _ i S c. let u : i ≡ value W (p .next) = sames (sym c ∙ j) in u ∙ sym v;
           below = omega (arith, v, k);
         }
       where

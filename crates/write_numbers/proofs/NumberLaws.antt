@@ -21,7 +21,8 @@ use Rattle.pens.specs.Rest.{items}
 use Rattle.pens.specs.Writes.{Writes, Inks, Part}
 use Rattle.pens.proofs.PenLaws.{then-writes}
 use Rattle.pens.proofs.GotLaws.{writes-as, writes-none, writes-ink}
-use Rattle.write_numbers.proofs.FrontLaws.{value, one, number-end, listed-end, number-front, name-front, listed-front}
+use Rattle.pens.proofs.FrontLaws.{value, one}
+use Rattle.write_numbers.proofs.FrontLaws.{number-end, listed-end, number-front, name-front, listed-front}
 
 ---------------------------------------------------------------- numbers
 
