@@ -33,7 +33,7 @@ put-whole-requires : tie.Need-put-whole-requires
 put-whole-requires c κs =
     let a = (c .before .before .before .before .before .before .before .before .before .args) in
     let l = (c .before .before .before .before .before .before .before .before .before .pre) in
-    let j = (c .before .before .before .before .units-at .ensures) .1 (omega (arith, l .7, (c .before .before .before .if2 .left))) in
+    let j = (c .before .before .before .before .units-at .ensures) .1 (omega (arith, l .6, (c .before .before .before .if2 .left))) in
     let b = (c .bits-for .ensures) in
     (omega (arith, j .0, l .0), omega (arith, j .0, l .1), l .2, inside-at spanTag (length (a .src .now) * 8) (a .words .now) (a .m) (l .3) (a .p .next) (j .0) (ap spanTag (j .1) ∙ l .4), l .5, b .1, size-fits (a .lo) (a .hi) (c .before .before .before .before .units-at .result) _ (c .before .before .if3 .left) (b .0))
 
@@ -42,7 +42,7 @@ returns-4 c =
     let a = (c .before .before .before .before .before .before .before .before .before .before .before .before .args) in
     let l = (c .before .before .before .before .before .before .before .before .before .before .before .before .pre) in
     let k = (c .before .before .before .before .before .before .before .units-at) in
-    λ y. span-put (a .src .now) (a .words .now) (a .m) (a .tag) (a .element) (a .w) (l .5) (l .4) (a .p) _ _ _ (k .result) y (c .before .before .before .before .before .before .before .before .if1 .left) (k .ensures .0 (bitOf (a .src .now))) (a .lo) (a .hi) (k .ensures .1) (l .7) (c .before .before .before .before .before .before .if2 .left) (c .before .before .before .before .before .if3 .left) ((c .before .before .before .bits-for .ensures) .0) (c .before .before .put-whole .ensures)
+    λ y. span-put (a .src .now) (a .words .now) (a .m) (a .tag) (a .element) (a .w) (l .5) (l .4) (a .p) _ _ _ (k .result) y (c .before .before .before .before .before .before .before .before .if1 .left) (k .ensures .0 (bitOf (a .src .now))) (a .lo) (a .hi) (k .ensures .1) (l .6) (c .before .before .before .before .before .before .if2 .left) (c .before .before .before .before .before .if3 .left) ((c .before .before .before .bits-for .ensures) .0) (c .before .before .put-whole .ensures)
 
 pub write-span-spec : {M : Type 1} → statement M
 write-span-spec =

@@ -81,7 +81,7 @@ returns-4 c =
 write-span-requires : tie.Need-write-span-requires
 write-span-requires c κs =
     let e = c .before .before .before .before .before .before .before .before .before in
-    let s = (sure-span (e .args .a) (e .args .b) (e .args .c) (e .args .d) (e .args .e) (c .before .if5 .taken) ((e .pre) .2)) in (((e .pre) .0 .records), ((e .pre) .0 .few), ((e .pre) .0 .bytes), ((e .pre) .0 .spans), s .0, s .1, s .2, s .3, s .4, s .5)
+    let s = (sure-span (e .args .a) (e .args .b) (e .args .c) (e .args .d) (e .args .e) (c .before .if5 .taken) ((e .pre) .2)) in (((e .pre) .0 .records), ((e .pre) .0 .few), ((e .pre) .0 .bytes), ((e .pre) .0 .spans), s .0, s .1, s .3, s .4)
 
 -- src/leaf.rt:50:9
 same-length-5 : tie.Need-same-length-5
@@ -97,7 +97,7 @@ returns-5 c =
 write-any-span-requires : tie.Need-write-any-span-requires
 write-any-span-requires c κs =
     let e = c .before .before .before .before .before .before .before .before .before .before in
-    let s = (sure-any (e .args .a) (e .args .b) (e .args .c) (e .args .d) (e .args .e) (c .before .if6 .taken) ((e .pre) .2)) in (((e .pre) .0 .records), ((e .pre) .0 .few), ((e .pre) .0 .bytes), ((e .pre) .0 .spans), s .0, s .1, s .2)
+    let s = (sure-any (e .args .a) (e .args .b) (e .args .c) (e .args .d) (e .args .e) (c .before .if6 .taken) ((e .pre) .2)) in (((e .pre) .0 .records), ((e .pre) .0 .few), ((e .pre) .0 .bytes), ((e .pre) .0 .spans), s .0, s .1)
 
 -- src/leaf.rt:53:9
 same-length-6 : tie.Need-same-length-6
