@@ -1,0 +1,5 @@
+pub mod CleanLaws
+pub mod NoneBegins
+pub mod OneWay
+pub mod Listed
+pub mod Worked
