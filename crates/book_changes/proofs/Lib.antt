@@ -1,1 +1,3 @@
 pub mod ChangeLaws
+pub mod Orderly
+pub mod ShownLaws

@@ -1,5 +1,5 @@
 -- What a slice of words holds: entries by rising frame number, each name once, and zeros behind them.
-use mathlib.Core.Bool.{Bool, true, false, cond, not, _&&_}
+use mathlib.Core.Bool.{Bool, true, false, cond, not, _&&_, _||_}
 use mathlib.Core.List.{List, [], _∷_, _++_}
 use mathlib.Core.Option.{Option, none, some}
 use Prim.Native.Nat.{ℕ, suc, _*_, _/_, _-_}
@@ -13,9 +13,10 @@ unfoldable pub place : (Entry → Bool) → List Entry → ℕ
 place fits [] = 0
 place fits (e ∷ E) = cond (fits e) 0 (suc (place fits E))
 
+-- one of them fits
 unfoldable pub holds : (Entry → Bool) → List Entry → Bool
-unfolding place
-holds fits E = ltb (place fits E) (length E)
+holds fits [] = false
+holds fits (e ∷ E) = fits e || holds fits E
 
 abbrev pub named : ℕ → ℕ → Entry → Bool
 named t s e = eqb (text e) t && eqb (size e) s

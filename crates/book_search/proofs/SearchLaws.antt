@@ -13,8 +13,9 @@ use lib.Seq.{drop-cons}
 use borrow.Author.Tests.{ne-eqb, lt-ltb, le-ltb, le-leb, lt-leb}
 use Rattle.book_entries.specs.declared.Entry.{Entry}
 use Rattle.book_entries.specs.Entries.{text, size, good, entryAt}
-use Rattle.book_entries.specs.Book.{place, holds, named, before, fair, orderly, entries, clear, held}
+use Rattle.book_entries.specs.Book.{place, named, before, fair, orderly, entries, clear, held}
 use Rattle.book_entries.proofs.Places.{from, next-of, last}
+use Rattle.book_entries.proofs.Tests.{holds-place}
 
 -- what a test says of x it says of y
 pub told : {A : Type 0} (test : A → Bool) {x y : A} {r s : Bool} → r ≡ test x → x ≡ y → r ≡ s → test y ≡ s
@@ -50,8 +51,8 @@ module _ (e : Entry) (E : List Entry) where
 
     -- its name stands first at r, where k is the place behind e and n that behind the last entry
     pub fresh : before e E ≡ true → (k : ℕ) {r n : ℕ} → r ≡ k + place (named (text e) (size e)) E → n ≡ k + length E → fair e E ≡ leb n r
-    unfolding fair holds
-    fresh b k {r} {n} q l = rw (g, b) (flipped (decLe n r))
+    unfolding fair
+    fresh b k {r} {n} q l = rw (g, b, holds-place) (flipped (decLe n r))
       where
         p : ℕ
         p = place (named (text e) (size e)) E
