@@ -46,7 +46,7 @@ holding {w} {E} e =
 
 -- n words that hold E
 module _ (n : ℕ) (E : List Entry) (fits : length E * 4 ≤ n) where
-  shown-length : length (shown n E) ≡ n
+  pub shown-length : length (shown n E) ≡ n
   unfolding shown
   shown-length = length-append (picture E) (replicate (n - length E * 4) 0) ∙ omega (arith, picture-length E, length-replicate {A = ℕ} (n - length E * 4) 0)
 
