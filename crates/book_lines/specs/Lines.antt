@@ -17,14 +17,16 @@ unfoldable pub digits : ℕ → ℕ → List ℕ
 digits zero x = []
 digits (suc n) x = digits n (x / 16) ++ digit (x % 16) ∷ []
 
+-- the bytes v with l from byte `at` on
+unfoldable pub put : ℕ → List ℕ → List ℕ → List ℕ
+put at l v = take at v ++ l ++ drop (at + length l) v
+
 -- two digits to a character
 unfoldable pub line : Entry → List ℕ
-unfolding digits
 line e = digits (size e * 2) (text e / 256 ^ (8 - size e)) ++ digits 8 (e .number) ++ digits 4 (bytes e) ++ 10 ∷ []
 
 -- "saved by rising number": the entries are held so
 unfoldable pub saved : List Entry → List ℕ
-unfolding line
 saved [] = []
 saved (e ∷ E) = line e ++ saved E
 
@@ -46,7 +48,6 @@ checked e = cond (good e) (some e) none
 
 -- a name in s characters, eight digits and four
 unfoldable pub parts : ℕ → List ℕ → Option Entry
-unfolding onward checked
 parts s l =
     elim (onward 0 (take (s * 2) l)) [ none ↦ none | some x ↦
     elim (onward 0 (take 8 (drop (s * 2) l))) [ none ↦ none | some k ↦
@@ -54,7 +55,6 @@ parts s l =
 
 -- the entry of a line, its line feed left out: 2 to 8 characters
 unfoldable pub entry : List ℕ → Option Entry
-unfolding parts
 entry l = cond (leb 16 (length l) && (leb (length l) 28 && eqb (length l % 2) 0)) (parts ((length l - 12) / 2) l) none
 
 -- one entry and those behind it
@@ -65,6 +65,5 @@ also (some e) (some E) = some (e ∷ E)
 
 -- the entries of a text whose first line has begun with l; every line ends with a line feed
 unfoldable pub lines : List ℕ → List ℕ → Option (List Entry)
-unfolding entry also
 lines l [] = cond (eqb (length l) 0) (some []) none
 lines l (c ∷ t) = cond (eqb c 10) (also (entry l) (lines [] t)) (lines (l ++ c ∷ []) t)

@@ -1,32 +1,36 @@
 // One line of a saved book.
 ghost use mathlib.Core.Path.{_≡_};
-ghost use mathlib.Core.List.{_++_};
 ghost use Prim.Native.Nat.{_+_, _*_, _≤_, _<_};
-ghost use lib.ListN.{length, take, drop};
-ghost use Rattle.book_entries.specs.Entries.{size, good as Entries·good};
-ghost use Rattle.book_lines.specs.Lines.{digit as Lines·digit, digits, line};
-ghost use mathlib.Core.Bool.{true};
+ghost use lib.ListN.{length};
+ghost use Rattle.book_entries.specs.Entries.{size};
+ghost use Rattle.book_lines.specs.Lines.{digit as Lines·digit, digits, put, line};
 use book_entries::Entry;
 use book_entries::text;
 use book_entries::unit;
 
 // The line of an entry from byte `at` on; the other bytes stay.
 pub fn put_line(out: &mut [u8], at: usize, e: Entry)
-    requires { ⌜ (Entries·good e ≡ true) × (at + length (line e) ≤ length (now out)) ⌝ }
-    ensures { λ _. ⌜ now (out .exit) ≡ take at (now (out .entry)) ++ line e ++ drop (at + length (line e)) (now (out .entry)) ⌝ }
+    requires { ⌜ (2 ≤ size e) × (size e ≤ 8) × (at + (size e * 2 + 13) ≤ length (now out)) ⌝ }
+    ensures { λ _. ⌜ now (out .exit) ≡ put at (line e) (now (out .entry)) ⌝ }
 {
-    let size = e.shape / 65536;
-    let width = wide(size) as usize * 2;
-    put_digits(out, at, width, text(e) / unit(size));
+    let width = name_digits(e);
+    put_digits(out, at, width, text(e) / unit(e.shape / 65536));
     put_digits(out, at + width, 8, wide(e.number));
     put_digits(out, at + width + 8, 4, wide(e.shape % 65536));
     out[at + width + 12] = b'\n';
 }
 
+// How many digits a name has.
+pub fn name_digits(e: Entry) -> usize
+    ensures { λ r. ⌜ r ≡ size e * 2 ⌝ }
+{
+    (e.shape / 65536 * 2) as usize
+}
+
 // The last n digits of x from byte `at` on.
 fn put_digits(out: &mut [u8], at: usize, n: usize, x: u64)
     requires { ⌜ at + n ≤ length (now out) ⌝ }
-    ensures { λ _. ⌜ now (out .exit) ≡ take at (now (out .entry)) ++ digits n x ++ drop (at + n) (now (out .entry)) ⌝ }
+    ensures { λ _. ⌜ now (out .exit) ≡ put at (digits n x) (now (out .entry)) ⌝ }
 {
     let mut rest = x;
     let mut k = n;
