@@ -1,0 +1,78 @@
+-- The lines of the entries from one place on.
+use mathlib.Core.Path.{_≡_, refl, sym, ap, _∙_}
+use mathlib.Core.Bool.{Bool, true, false, cond, _&&_}
+use mathlib.Core.List.{List, [], _∷_, _++_, append-nil}
+use mathlib.Core.Option.{none, some}
+use Prim.Native.Nat.{ℕ, _+_, _*_, _-_, _^_, _%_, _≤_, _<_}
+use native.Mathlib.Nat.{zero-add}
+use native.Mathlib.Omega.{arith}
+use lib.Dec.{leb, eqb}
+use lib.ListN.{length, take, drop, length-append, take-append-drop}
+use borrow.Author.Tests.{leb-true, le-leb, lt-leb}
+use Rattle.book_entries.specs.declared.Entry.{Entry}
+use Rattle.book_entries.specs.Entries.{text, size, good, plain, entryAt}
+use Rattle.book_entries.specs.Book.{orderly, entries, held}
+use Rattle.book_entries.proofs.Places.{from, next-of, last}
+use Rattle.book_entries.proofs.Tests.{both}
+use Rattle.book_entries.proofs.Held.{holding}
+use Rattle.book_changes.proofs.Orderly.{first-fair, others}
+use Rattle.book_lines.specs.Lines.{line, saved, put}
+use Rattle.book_lines.proofs.LineLaws.{line-length, put-length, put-put}
+use Rattle.name_book.specs.Calls.{Leaves}
+use Rattle.saved_books.specs.declared.Saved.the-variants.{Wrote, Refused}
+use Rattle.saved_books.specs.Saves.{settled, save}
+
+pub good-size : (e : Entry) → good e ≡ true → (2 ≤ size e) × (size e ≤ 8)
+unfolding good
+good-size e g =
+    let a = both (leb 2 (size e)) (leb (size e) 8 && (plain (e .high) && (plain (e .low) && eqb (text e % 256 ^ (8 - size e)) 0))) g in
+    let b = both (leb (size e) 8) (plain (e .high) && (plain (e .low) && eqb (text e % 256 ^ (8 - size e)) 0)) (a .1) in
+    (leb-true 2 (size e) (a .0), leb-true (size e) 8 (b .0))
+
+module _ (w : List ℕ) (i : ℕ) (p : i < length (entries w)) (o : orderly (from w i) ≡ true) where
+  split : orderly (entryAt w i ∷ from w (i + 1)) ≡ true
+  split = rw (next-of w i p) at o
+
+  pub next-size : (2 ≤ size (entryAt w i)) × (size (entryAt w i) ≤ 8)
+  next-size = good-size (entryAt w i) (first-fair (entryAt w i) (from w (i + 1)) split .good)
+
+  pub next-orderly : orderly (from w (i + 1)) ≡ true
+  next-orderly = others (entryAt w i) (from w (i + 1)) split
+
+module _ (w : List ℕ) (i : ℕ) (p : i < length (entries w)) where
+  pub next-length : length (saved (from w i)) ≡ size (entryAt w i) * 2 + 13 + length (saved (from w (i + 1)))
+  unfolding saved
+  next-length = rw (next-of w i p) (length-append (line (entryAt w i)) (saved (from w (i + 1))) ∙ omega (arith, line-length (entryAt w i)))
+
+  -- v as it was, with the line of e, the entry at place i, put at `at`
+  pub next-line : (at : ℕ) (v : List ℕ) {e : Entry} {y v′ : List ℕ} {j : ℕ} → e ≡ entryAt w i → y ≡ put at (saved (from w i)) v → v′ ≡ put at (line e) v → j ≡ at + (size e * 2 + 13) → at + (size e * 2 + 13) ≤ length v → y ≡ put j (saved (from w (i + 1))) v′
+  unfolding saved
+  next-line at v {e = e} {j = j} is h g k q =
+      let n : from w i ≡ e ∷ from w (i + 1) = next-of w i p ∙ ap (λ (f : Entry). f ∷ from w (i + 1)) (sym is) in
+      let l : j ≡ at + length (line e) = omega (arith, line-length e) in
+      rw (h, n, g, l) (sym (put-put at (line e) v (omega (arith, line-length e)) (saved (from w (i + 1)))))
+
+-- nothing is left
+pub ended : (w : List ℕ) (i at : ℕ) (v : List ℕ) {y : List ℕ} → i ≡ length (entries w) → y ≡ put at (saved (from w i)) v → v ≡ y
+unfolding saved put
+ended w i at v e h =
+    let l : from w i ≡ [] = rw e (last w) in
+    let a : at + 0 ≡ at = omega arith in
+    sym (h ∙ rw (l, a, append-nil (take at v)) (take-append-drop at v))
+
+pub no-bytes : (w : List ℕ) (i : ℕ) → i ≡ length (entries w) → length (saved (from w i)) ≡ 0
+unfolding saved
+no-bytes w i e = let l : from w i ≡ [] = rw e (last w) in rw l
+
+pub save-unsound : (w out : List ℕ) → held w ≡ none → Leaves (Refused 18 0) out (save w out)
+unfolding save
+save-unsound w out h = record { is = rw (h, save) }
+
+module _ (w out : List ℕ) {n : ℕ} (h : held w ≡ some (entries w)) (e : n ≡ length (saved (entries w))) where
+  pub save-short : length out < n → Leaves (Refused 9 n) out (save w out)
+  unfolding save settled
+  save-short l = record { is = rw (h, save) (rw (e, lt-leb (length (saved (entries w))) (length out) (omega arith))) }
+
+  pub save-wrote : {v : List ℕ} → n ≤ length out → v ≡ put 0 (saved (entries w)) out → Leaves (Wrote n) v (save w out)
+  unfolding save settled put
+  save-wrote l x = record { is = rw (h, save) (rw (e, le-leb (length (saved (entries w))) (length out) (omega arith), x, zero-add)) }
