@@ -51,14 +51,14 @@ pub orderly-of : (e : Entry) (E : List Entry) → Fair e E → orderly E ≡ tru
 unfolding orderly
 orderly-of e E f o = rw (fair-of e E f, o)
 
-eqb-comm : (a b : ℕ) → eqb a b ≡ eqb b a
+pub eqb-comm : (a b : ℕ) → eqb a b ≡ eqb b a
 eqb-comm a b = go (ℕ-discrete a b)
   where
     go : Dec (a ≡ b) → eqb a b ≡ eqb b a
     go (yes h) = rw (eq-eqb a b h, eq-eqb b a (sym h))
     go (no h) = rw (ne-eqb a b h, ne-eqb b a (λ k. h (sym k)))
 
-alike-comm : (e f : Entry) → alike e f ≡ alike f e
+pub alike-comm : (e f : Entry) → alike e f ≡ alike f e
 alike-comm e f = rw (eqb-comm (text f) (text e), eqb-comm (size f) (size e))
 
 -- an entry more

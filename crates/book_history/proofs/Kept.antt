@@ -38,16 +38,16 @@ module _ (places : ℕ) (E : List Entry) (f : Fits places E) where
       either P (not (good e)) (λ g. f) (λ g.
       either P (holds (alike e) E) (λ n. f) (λ n.
       either P (ltb (length E) places)
-          (λ r. record { orderly = insert-orderly e E (not-false (good e) g) t n (f .orderly); few = omega (arith, insert-length e E, ltb-true (length E) places r) })
-          (λ r. f))))
+      (λ r. record { orderly = insert-orderly e E (not-false (good e) g) t n (f .orderly); few = omega (arith, insert-length e E, ltb-true (length E) places r) })
+      (λ r. f))))
 
   taken : (k : ℕ) → Fits places (take-out k E .1)
   unfolding take-out
   taken k =
       let P : Withdrawn × List Entry → Type 0 = λ o. Fits places (o .1) in
       either P (holds (numbered k) E)
-          (λ h. record { orderly = without-orderly k E (f .orderly); few = omega (arith, f .few, without-length k E (ltb-true (place (numbered k) E) (length E) (sym (holds-place (numbered k) E) ∙ h))) })
-          (λ h. f)
+      (λ h. record { orderly = without-orderly k E (f .orderly); few = omega (arith, f .few, without-length k E (ltb-true (place (numbered k) E) (length E) (sym (holds-place (numbered k) E) ∙ h))) })
+      (λ h. f)
 
   pub stays-fit : (c : Call) → Fits places (says places E c)
   unfolding says

@@ -49,9 +49,15 @@ checked e = cond (good e) (some e) none
 -- a name in s characters, eight digits and four
 unfoldable pub parts : ℕ → List ℕ → Option Entry
 parts s l =
-    elim (onward 0 (take (s * 2) l)) [ none ↦ none | some x ↦
-    elim (onward 0 (take 8 (drop (s * 2) l))) [ none ↦ none | some k ↦
-    elim (onward 0 (drop (s * 2 + 8) l)) [ none ↦ none | some b ↦ checked (entryOf s x k b) ] ] ]
+    elim (onward 0 (take (s * 2) l)) [
+      | none ↦ none
+      | some x ↦
+          elim (onward 0 (take 8 (drop (s * 2) l))) [
+            | none ↦ none
+            | some k ↦
+                elim (onward 0 (drop (s * 2 + 8) l)) [ none ↦ none | some b ↦ checked (entryOf s x k b) ]
+          ]
+    ]
 
 -- the entry of a line, its line feed left out: 2 to 8 characters
 unfoldable pub entry : List ℕ → Option Entry

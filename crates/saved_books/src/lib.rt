@@ -23,12 +23,18 @@ pub fn save(book: &[u32], out: &mut [u8]) -> Saved
     ensures { λ r. ⌜ Leaves r (now (out .exit)) (Saves·save (now (book .entry)) (now (out .entry))) ⌝ }
 {
     if !sound(book) {
-        return Saved::Refused { number: 18, need: 0 };
+        return Saved::Refused {
+            number: 18,
+            need: 0,
+        };
     }
     let n = count(book);
     let need = bytes_needed(book, n);
     if out.len() < need {
-        return Saved::Refused { number: 9, need: need };
+        return Saved::Refused {
+            number: 9,
+            need: need,
+        };
     }
     put_lines(book, n, out);
     Saved::Wrote { bytes: need }

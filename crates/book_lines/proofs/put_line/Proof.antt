@@ -31,14 +31,14 @@ returns c =
     let q = digits-length 8 (a .e .number) in
     let r = digits-length 4 (bytes (a .e)) in
     chained (a .at) name number last (a .out .now) 10
-        (rw (d .ensures, f .before .before .before .text .ensures, f .before .unit .ensures) at (f .put-digits .ensures))
-        (rw (s .before .wide .ensures) at (s .put-digits2 .ensures))
-        (omega (arith, d .ensures, p))
-        (rw (t .before .wide2 .ensures) at (t .put-digits3 .ensures))
-        (omega (arith, q))
-        refl
-        (omega (arith, r))
-        (omega (arith, d .ensures, c .before .before .before .before .before .before .before .before .before .before .before .before .before .before .before .before .before .before .before .before .pre))
+    (rw (d .ensures, f .before .before .before .text .ensures, f .before .unit .ensures) at (f .put-digits .ensures))
+    (rw (s .before .wide .ensures) at (s .put-digits2 .ensures))
+    (omega (arith, d .ensures, p))
+    (rw (t .before .wide2 .ensures) at (t .put-digits3 .ensures))
+    (omega (arith, q))
+    refl
+    (omega (arith, r))
+    (omega (arith, d .ensures, c .before .before .before .before .before .before .before .before .before .before .before .before .before .before .before .before .before .before .before .before .pre))
 
 same-length : tie.Need-same-length
 same-length c = let a = c .before .before .before .before .before .before .before .before .before .before .before .before .before .before .before .before .before .before .before .before .args in ap length (returns c) ∙ put-length (a .at) (line (a .e)) (a .out .now) (omega (arith, line-length (a .e), c .before .before .before .before .before .before .before .before .before .before .before .before .before .before .before .before .before .before .before .before .pre))

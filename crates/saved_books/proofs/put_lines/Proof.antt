@@ -46,9 +46,14 @@ loop-again c =
     let e = c .before .before .before .before .before in
     let z = c .before .before .before .before .before .before .before .loop in
     let b = c .before .before .before .before .before .before .before .before .before .before .args .book .now in
-    let long = ap length (c .before .before .before .put-line .ensures) ∙ put-length (z .at) (line (e .entry-at .result)) (z .out) (omega (arith, line-length (e .entry-at .result), needs-room e)) in
-    (omega arith, z .inv .1, long ∙ z .inv .2, omega (arith, long, needs-room e, c .name-digits .ensures), next-orderly b (z .i) (omega arith) (z .inv .4),
-      next-line b (z .i) (omega arith) (z .at) (z .out) (e .entry-at .ensures) (z .inv .5) (c .before .before .before .put-line .ensures) (omega (arith, c .name-digits .ensures)) (omega (arith, needs-room e)))
+    let long = ap length (c .before .before .before .put-line .ensures) ∙ put-length (z .at) (line (e .entry-at .result)) (z .out) (omega (arith, line-length (e .entry-at .result), needs-room e)) in (
+      omega arith,
+      z .inv .1,
+      long ∙ z .inv .2,
+      omega (arith, long, needs-room e, c .name-digits .ensures),
+      next-orderly b (z .i) (omega arith) (z .inv .4),
+      next-line b (z .i) (omega arith) (z .at) (z .out) (e .entry-at .ensures) (z .inv .5) (c .before .before .before .put-line .ensures) (omega (arith, c .name-digits .ensures)) (omega (arith, needs-room e)),
+    )
 
 returns : tie.Need-returns Inv-loop μ-loop
 returns c = ended (c .before .before .before .before .args .book .now) (c .before .loop .i) (c .before .loop .at) (c .before .loop .out) (omega arith) (c .before .loop .inv .5)
