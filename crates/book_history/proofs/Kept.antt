@@ -73,10 +73,10 @@ module _ (places : ℕ) (E : List Entry) (f : Fits places E) where
       go (some L) h =
           let P : Loaded × List Entry → Type 0 = λ o. Fits places (o .1) in
           either P (distinct L)
-              (λ d. either P (leb (length L) places)
-                  (λ r. record { orderly = gathered-orderly [] L (ready-first t h d); few = omega (arith, gathered-length [] L, leb-true (length L) places r) })
-                  (λ r. f))
-              (λ d. f)
+          (λ d. either P (leb (length L) places)
+          (λ r. record { orderly = gathered-orderly [] L (ready-first t h d); few = omega (arith, gathered-length [] L, leb-true (length L) places r) })
+          (λ r. f))
+          (λ d. f)
 
   pub stays-fit : (c : Call) → Fits places (says places E c)
   unfolding says

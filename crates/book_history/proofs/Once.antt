@@ -55,6 +55,7 @@ first-in fits (e ∷ E) h = go (fits e) refl h (first-in fits E)
   where
     at : Bool → Entry
     at b = getD (e ∷ E) (cond b 0 (suc (place fits E))) vacant
+
     go : (b : Bool) → fits e ≡ b → b || holds fits E ≡ true → (holds fits E ≡ true → In (first fits E) E × (fits (first fits E) ≡ true)) → In (at b) (e ∷ E) × (fits (at b) ≡ true)
     go true g k i = (here, g)
     go false g k i = (there (i k .0), i k .1)
@@ -75,6 +76,7 @@ found-held t s E {k} {b} h = go (holds (named t s) E) refl h
   where
     F : Entry
     F = first (named t s) E
+
     go : (v : Bool) → holds (named t s) E ≡ v → cond v (found.the-variants.At (F .number) (bytes F)) found.the-variants.Nowhere ≡ found.the-variants.At k b → (e : Entry) × In e E × (named t s e ≡ true) × (k ≡ e .number) × (b ≡ bytes e)
     go true g j = let i = first-in (named t s) E g in (F, i .0, i .1, cc, cc)
     go false g j = absurd (let z : _≡_ {A = ℕ} 0 1 = cc in omega arith)
