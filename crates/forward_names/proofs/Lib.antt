@@ -1,0 +1,3 @@
+pub mod NameLaws
+pub mod HeaderLaws
+pub mod Identifiers
