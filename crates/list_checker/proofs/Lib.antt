@@ -1,0 +1,4 @@
+pub mod EntryLaws
+pub mod CmLaws
+pub mod JudgeLaws
+pub mod Exactly

@@ -1,0 +1,3 @@
+pub mod Entered
+pub mod Checks
+pub mod Judged

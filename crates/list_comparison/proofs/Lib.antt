@@ -1,0 +1,3 @@
+pub mod YesLaws
+pub mod AlikeLaws
+pub mod LoopLaws
