@@ -1,3 +1,4 @@
 pub mod YesLaws
+pub mod First
 pub mod AlikeLaws
 pub mod LoopLaws

@@ -1,0 +1,96 @@
+-- The place that is named is the first: the records before it are the reading's, and the record there is not.
+use mathlib.Core.Path.{_≡_, refl, sym, ap, _∙_}
+use mathlib.Core.Bool.{Bool, true, false, cond, _&&_}
+use mathlib.Core.List.{List, [], _∷_}
+use Prim.Native.Nat.{ℕ, zero, suc, _+_, _*_, _≤_, _<_}
+use native.Mathlib.Omega.{arith}
+use lib.Dec.{eqb}
+use lib.ListN.{length, take, drop}
+use borrow.Author.Tests.{eqb-true, eq-eqb}
+use Rattle.atn.specs.Entries.{flat}
+use Rattle.atn.specs.Reading.{Rec, rec}
+use Rattle.atn.proofs.Inverse.{both}
+use Rattle.list_comparison.specs.declared.Checked.{Checked}
+use Rattle.list_comparison.specs.declared.Checked.the-variants.{Yes, Differs, Missing, TooMany, Incomplete, Refused}
+use Rattle.list_comparison.specs.Compared.{compared}
+
+-- the place that is named, 0 for none
+unfoldable pub placeOf : Checked → ℕ
+placeOf Yes = 0
+placeOf (Differs i) = i
+placeOf (Missing i) = i
+placeOf (TooMany i) = i
+placeOf (Incomplete i) = i
+placeOf (Refused n) = 0
+
+-- k records of the list are the reading's, and the next is not; where the reading has no more, the list has
+pub record First (k : ℕ) (R : List Rec) (l : List ℕ) : Type 0 where
+  pub before : take (k * 4) l ≡ flat (take k R)
+  pub here : k < length R → take (suc k * 4) l ≡ flat (take (suc k) R) → ⊥
+  pub behind : length R ≤ k → (k ≡ length R) × (k * 4 < length l)
+
+---------------------------------------------------------------- no place before the start
+
+either : (x : Bool) (A B : Checked) {j : ℕ} → (placeOf A ≡ j → ⊥) → (placeOf B ≡ j → ⊥) → placeOf (cond x A B) ≡ j → ⊥
+either true A B f g q = f q
+either false A B f g q = g q
+
+at-least : (i j : ℕ) (R : List Rec) (l : List ℕ) → 1 ≤ j → j < i → placeOf (compared i R l) ≡ j → ⊥
+unfolding compared placeOf
+at-least i j [] [] h g q = omega arith
+at-least i j [] (a ∷ l) h g q = omega arith
+at-least i j (r ∷ R) [] h g q = omega arith
+at-least i j (r ∷ R) (a ∷ []) h g q = omega arith
+at-least i j (r ∷ R) (a ∷ b ∷ []) h g q = omega arith
+at-least i j (r ∷ R) (a ∷ b ∷ c ∷ []) h g q = omega arith
+at-least i j (rec t e v n ∷ R) (a ∷ b ∷ c ∷ d ∷ l) h g q =
+    either (eqb t a && (eqb e b && (eqb v c && eqb n d))) (compared (suc i) R l) (Differs i) (λ y. at-least (suc i) j R l h (omega arith) y) (λ y. omega arith) q
+
+---------------------------------------------------------------- the place
+
+at-once : (R : List Rec) (l : List ℕ) → (0 < length R → take 4 l ≡ flat (take 1 R) → ⊥) → (length R ≤ 0 → 0 < length l) → (k : ℕ) → k ≡ 0 → First k R l
+unfolding flat
+at-once R l f g zero z = record { before = refl; here = f; behind = λ h. (omega arith, g h) }
+at-once R l f g (suc k) z = absurd (omega arith)
+
+one-more : (t e v n k : ℕ) (R : List Rec) (l : List ℕ) → First k R l → First (suc k) (rec t e v n ∷ R) (t ∷ e ∷ v ∷ n ∷ l)
+unfolding flat
+one-more t e v n k R l f =
+    let z : suc k * 4 ≡ suc (suc (suc (suc (k * 4)))) = omega arith in
+    let y : suc (suc k) * 4 ≡ suc (suc (suc (suc (suc k * 4)))) = omega arith in
+    record {
+      before = rw (z, f .before);
+      here = λ h q. f .here (omega arith) (ap (λ (x : List ℕ). drop 4 x) (rw y at q));
+      behind = λ h. (let x = f .behind (omega arith) in (omega (arith, x .0), omega (arith, x .1)));
+    }
+
+-- the records before the place that is named are the reading's, and the one there is not
+pub first : (i k : ℕ) (R : List Rec) (l : List ℕ) → 1 ≤ i → placeOf (compared i R l) ≡ i + k → First k R l
+unfolding compared placeOf flat
+first i k [] [] h q = absurd (omega arith)
+first i k [] (a ∷ l) h q = at-once [] (a ∷ l) (λ x. absurd (omega arith)) (λ _. omega arith) k (omega arith)
+first i k (rec t e v n ∷ R) [] h q = at-once (rec t e v n ∷ R) [] (λ _ x. (let y : _≡_ {A = ℕ} 0 4 = ap (λ (z : List ℕ). length z) x in omega arith)) (λ x. absurd (omega arith)) k (omega arith)
+first i k (rec t e v n ∷ R) (a ∷ []) h q = at-once (rec t e v n ∷ R) (a ∷ []) (λ _ x. (let y : _≡_ {A = ℕ} 1 4 = ap (λ (z : List ℕ). length z) x in omega arith)) (λ x. absurd (omega arith)) k (omega arith)
+first i k (rec t e v n ∷ R) (a ∷ b ∷ []) h q = at-once (rec t e v n ∷ R) (a ∷ b ∷ []) (λ _ x. (let y : _≡_ {A = ℕ} 2 4 = ap (λ (z : List ℕ). length z) x in omega arith)) (λ x. absurd (omega arith)) k (omega arith)
+first i k (rec t e v n ∷ R) (a ∷ b ∷ c ∷ []) h q = at-once (rec t e v n ∷ R) (a ∷ b ∷ c ∷ []) (λ _ x. (let y : _≡_ {A = ℕ} 3 4 = ap (λ (z : List ℕ). length z) x in omega arith)) (λ x. absurd (omega arith)) k (omega arith)
+first i k (rec t e v n ∷ R) (a ∷ b ∷ c ∷ d ∷ l) h q = go (eqb t a && (eqb e b && (eqb v c && eqb n d))) refl (λ j y. first (suc i) j R l (omega arith) y) k q
+  where
+    go : (x : Bool) → (eqb t a && (eqb e b && (eqb v c && eqb n d))) ≡ x → ((j : ℕ) → placeOf (compared (suc i) R l) ≡ suc i + j → First j R l) → (k : ℕ) → placeOf (cond x (compared (suc i) R l) (Differs i)) ≡ i + k → First k (rec t e v n ∷ R) (a ∷ b ∷ c ∷ d ∷ l)
+    go true p ih zero y = absurd (at-least (suc i) i R l h (omega arith) (y ∙ omega arith))
+    go true p ih (suc k) y =
+        let p₁ = both (eqb t a) (eqb e b && (eqb v c && eqb n d)) p in
+        let p₂ = both (eqb e b) (eqb v c && eqb n d) (p₁ .1) in
+        let p₃ = both (eqb v c) (eqb n d) (p₂ .1) in
+        let m : i + suc k ≡ suc i + k = omega arith in
+        rw (← (eqb-true t a (p₁ .0)), ← (eqb-true e b (p₂ .0)), ← (eqb-true v c (p₃ .0)), ← (eqb-true n d (p₃ .1))) (one-more t e v n k R l (ih k (y ∙ m)))
+    go false p ih k y =
+        at-once (rec t e v n ∷ R) (a ∷ b ∷ c ∷ d ∷ l)
+        (λ _ x.
+        let u : t ≡ a = cc in
+        let w : e ≡ b = cc in
+        let o : v ≡ c = cc in
+        let r : n ≡ d = cc in
+        let s : true ≡ false = sym (rw (eq-eqb t a u, eq-eqb e b w, eq-eqb v c o, eq-eqb n d r)) ∙ p in
+        let f : _≡_ {A = ℕ} 0 1 = cc in
+        omega arith)
+        (λ x. absurd (omega arith)) k (omega arith)
