@@ -1,0 +1,3 @@
+pub mod Offers
+pub mod Sights
+pub mod Shifts

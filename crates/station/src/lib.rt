@@ -1,0 +1,127 @@
+// The programmer station: binds the name in a capture to a calibration number, its frame number in the day's name book.
+ghost use mathlib.Core.Path.{_≡_};
+ghost use Prim.Native.Nat.{_*_};
+ghost use lib.Dec.{leb};
+ghost use Rattle.name_book.specs.Calls.{Leaves};
+ghost use Rattle.station.specs.Offers.{call, offer as Offers·offer, answered as Offers·answered};
+ghost use Rattle.station.specs.Shifts.{none-yet, next as Shifts·next, counted as Shifts·counted};
+use forward_names::forward_name;
+use name_book::Added;
+use name_book::add_entry;
+use named_entries::entry_of;
+use std::num::wrapping_add_u64;
+
+// Repeated: the calibration number that has the name. Refused: the number of the refusal, and the bits that the reading took, 0 where nothing was read.
+pub enum Offered {
+    Bound,
+    Repeated { number: u32 },
+    Refused { number: u64, reach: usize },
+}
+
+// What a station has counted.
+pub struct Shift {
+    pub offered: u64,
+    pub bound: u64,
+    pub repeated: u64,
+    pub refused: u64,
+}
+
+// Offers a capture of which so many bits arrived.
+pub fn offer(
+    capture: &[u8],
+    arrived: usize,
+    number: u32,
+    down: &[u8],
+    up: &[u8],
+    book: &mut [u32],
+) -> Offered
+    ensures { λ r. ⌜ Leaves r (now (book .exit)) (Offers·offer (call (now (capture .entry)) arrived number (now (down .entry)) (now (up .entry))) (now (book .entry))) ⌝ }
+{
+    if !holds_bits(capture.len(), arrived) {
+        return refused(21, 0);
+    }
+    let name = forward_name(capture, down, up);
+    if name.number != 0 {
+        return refused(name.number, name.reach);
+    }
+    if arrived < name.reach {
+        return refused(22, name.reach);
+    }
+    let added = add_entry(book, entry_of(name, number, capture.len()));
+    answered(added, name.reach)
+}
+
+// Whether so many bytes hold so many bits; eight times the bytes need not fit a word.
+fn holds_bits(bytes: usize, bits: usize) -> bool
+    ensures { λ r. ⌜ r ≡ leb bits (bytes * 8) ⌝ }
+{
+    if bits / 8 < bytes {
+        return true;
+    }
+    if bits % 8 != 0 {
+        return false;
+    }
+    bits / 8 == bytes
+}
+
+// The book's answer as the station's.
+fn answered(added: Added, reach: usize) -> Offered
+    ensures { λ r. ⌜ r ≡ Offers·answered reach added ⌝ }
+{
+    match added {
+        Added::New => Offered::Bound,
+        Added::Repeated { number } => Offered::Repeated { number: number },
+        Added::NoName => refused(19, reach),
+        Added::Refused { number } => refused(number, reach),
+    }
+}
+
+fn refused(number: u64, reach: usize) -> Offered
+    ensures { λ r. ⌜ r ≡ Offered.Refused number reach ⌝ }
+{
+    Offered::Refused {
+        number: number,
+        reach: reach,
+    }
+}
+
+// A shift begins.
+pub fn begin() -> Shift
+    ensures { λ r. ⌜ r ≡ none-yet ⌝ }
+{
+    Shift {
+        offered: 0,
+        bound: 0,
+        repeated: 0,
+        refused: 0,
+    }
+}
+
+// Counts one call by its answer. Behind 2^64 - 1 a number begins anew.
+pub fn counted(shift: Shift, answer: Offered) -> Shift
+    ensures { λ r. ⌜ r ≡ Shifts·counted shift answer ⌝ }
+{
+    let mut s = shift;
+    s.offered = next(s.offered);
+    match answer {
+        Offered::Bound => {
+            s.bound = next(s.bound);
+        }
+        Offered::Repeated { number: _ } => {
+            s.repeated = next(s.repeated);
+        }
+        Offered::Refused {
+            number: _,
+            reach: _,
+        } => {
+            s.refused = next(s.refused);
+        }
+    }
+    s
+}
+
+fn next(n: u64) -> u64
+    ensures { λ r. ⌜ r ≡ Shifts·next n ⌝ }
+{
+    wrapping_add_u64(n, 1)
+}
