@@ -21,8 +21,7 @@ struct Numbers {
 extern "C" {
     fn adjagosk_apdu(f: *const u8, n: usize, down: *const u8, d: usize, up: *const u8, u: usize, words: *mut u64, w: usize) -> Numbers;
     fn adjagosk_pdus(f: *const u8, n: usize, direction: u64, down: *const u8, d: usize, up: *const u8, u: usize, words: *mut u64, w: usize) -> Numbers;
-    fn adjagosk_cm_ground(f: *const u8, n: usize, words: *mut u64, w: usize) -> Numbers;
-    fn adjagosk_cm_logon(f: *const u8, n: usize, words: *mut u64, w: usize) -> Numbers;
+    fn adjagosk_cm(f: *const u8, n: usize, direction: u64, words: *mut u64, w: usize) -> Numbers;
     fn adjagosk_acse(f: *const u8, n: usize, words: *mut u64, w: usize) -> Numbers;
 }
 
@@ -53,8 +52,8 @@ fn corpus() -> Corpus {
             ("apdu", _) => Entry::Apdu,
             ("pdus", "0") => Entry::Down,
             ("pdus", "1") => Entry::Up,
-            ("cm_ground", _) => Entry::CmGround,
-            ("cm_logon", _) => Entry::CmLogon,
+            ("cm", "1") => Entry::CmGround,
+            ("cm", "0") => Entry::CmLogon,
             ("acse", _) => Entry::Acse,
             other => panic!("no such entry: {other:?}"),
         };
@@ -91,8 +90,8 @@ fn ours(entry: &Entry, frame: &[u8], down: &[u8], up: &[u8], words: &mut [u64]) 
             Entry::Apdu => adjagosk_apdu(f, n, d, dn, u, un, w, wn),
             Entry::Down => adjagosk_pdus(f, n, 0, d, dn, u, un, w, wn),
             Entry::Up => adjagosk_pdus(f, n, 1, d, dn, u, un, w, wn),
-            Entry::CmGround => adjagosk_cm_ground(f, n, w, wn),
-            Entry::CmLogon => adjagosk_cm_logon(f, n, w, wn),
+            Entry::CmGround => adjagosk_cm(f, n, 1, w, wn),
+            Entry::CmLogon => adjagosk_cm(f, n, 0, w, wn),
             Entry::Acse => adjagosk_acse(f, n, w, wn),
         }
     }

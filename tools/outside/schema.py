@@ -157,7 +157,7 @@ ACSE = Choice(t.ACSE_PDU, NOT_READ, NOT_READ, release(t.RELEASE_REQUEST_REASON),
 MESSAGES = {
     "Aircraft": (AIRCRAFT, "pdus", "0"),
     "Ground": (GROUND, "pdus", "1"),
-    "CmGround": (CM_GROUND, "cm_ground", "-"),
-    "CmLogon": (CM_LOGON, "cm_logon", "-"),
+    "CmGround": (CM_GROUND, "cm", "1"),
+    "CmLogon": (CM_LOGON, "cm", "0"),
     "Acse": (ACSE, "acse", "-"),
 }

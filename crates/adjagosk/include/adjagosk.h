@@ -1,4 +1,4 @@
-/* The five entries of Adjagosk, and its writer, for C: link libadjagosk.a, which `rt staticlib adjagosk` writes (x86-64).
+/* The four entries of Adjagosk, and its writer, for C: link libadjagosk.a, which `rt staticlib adjagosk` writes (x86-64).
 
    Each takes a frame and lends words for the records; all memory is the caller's. It writes nothing but the words
    given, reads nothing but what is passed, keeps nothing, and always returns. No pointer may be null, also where the
@@ -36,9 +36,9 @@ struct adjagosk_numbers adjagosk_pdus(const uint8_t *frame, size_t frame_length,
                                       const uint8_t *up, size_t up_length,
                                       uint64_t *words, size_t words_length);
 
-/* Context management, from the ground and from the aircraft. */
-struct adjagosk_numbers adjagosk_cm_ground(const uint8_t *frame, size_t frame_length, uint64_t *words, size_t words_length);
-struct adjagosk_numbers adjagosk_cm_logon(const uint8_t *frame, size_t frame_length, uint64_t *words, size_t words_length);
+/* Context Management, direction 0 for the aircraft's message, 1 for the ground's. */
+struct adjagosk_numbers adjagosk_cm(const uint8_t *frame, size_t frame_length, uint64_t direction,
+                                    uint64_t *words, size_t words_length);
 
 /* Association control. */
 struct adjagosk_numbers adjagosk_acse(const uint8_t *frame, size_t frame_length, uint64_t *words, size_t words_length);
@@ -50,7 +50,7 @@ struct adjagosk_frame {
     size_t need;      /* behind 9: the bytes needed */
 }; /* behind a refusal the bytes stay */
 
-/* From a list of records, four words each, to the frame of a clean message: kind 0 CPDLC, 1 context management,
+/* From a list of records, four words each, to the frame of a clean message: kind 0 CPDLC, 1 Context Management,
    2 association control; direction 0 the aircraft's message, 1 the ground's. The list's spans point into the bits of
    `source`. Nothing of `out` may overlap what is read. */
 struct adjagosk_frame adjagosk_write(uint64_t kind, uint64_t direction,

@@ -1,12 +1,11 @@
-// The five entries, and the writer, for programs in C and Rust: `rt staticlib adjagosk`, and include/adjagosk.h beside src/. A slice is a pointer and a length there.
+// The four entries, and the writer, for programs in C and Rust: `rt staticlib adjagosk`, and include/adjagosk.h beside src/. A slice is a pointer and a length there.
 ghost use mathlib.Core.Path.{_≡_};
-ghost use Rattle.atn.specs.Entries.{parse-apdu, parse-pdus, parse-cm-ground, parse-cm-logon, parse-acse-apdu};
+ghost use Rattle.atn.specs.Entries.{parse-apdu, parse-pdus, parse-cm, parse-acse-apdu};
 ghost use Rattle.answers.specs.Says.{answerOf};
 ghost use Rattle.adjagosk.specs.Gives.{Gives, numbersOf};
 use acse::parse_acse_apdu;
 use answers::Answer;
-use cm::parse_cm_ground;
-use cm::parse_cm_logon;
+use cm::parse_cm;
 use cpdlc::parse_apdu;
 use cpdlc::parse_pdus;
 
@@ -46,18 +45,10 @@ pub extern "C" fn adjagosk_pdus(
 }
 
 #[no_mangle]
-pub extern "C" fn adjagosk_cm_ground(frame: &[u8], words: &mut [u64]) -> Numbers
-    ensures { λ r. ⌜ Gives r (now (words .exit)) (parse-cm-ground (now (frame .entry)) (now (words .entry))) ⌝ }
+pub extern "C" fn adjagosk_cm(frame: &[u8], direction: u64, words: &mut [u64]) -> Numbers
+    ensures { λ r. ⌜ Gives r (now (words .exit)) (parse-cm (now (frame .entry)) direction (now (words .entry))) ⌝ }
 {
-    let a = parse_cm_ground(frame, words);
-    in_numbers(a)
-}
-
-#[no_mangle]
-pub extern "C" fn adjagosk_cm_logon(frame: &[u8], words: &mut [u64]) -> Numbers
-    ensures { λ r. ⌜ Gives r (now (words .exit)) (parse-cm-logon (now (frame .entry)) (now (words .entry))) ⌝ }
-{
-    let a = parse_cm_logon(frame, words);
+    let a = parse_cm(frame, direction, words);
     in_numbers(a)
 }
 

@@ -9,7 +9,7 @@ pub mod Agreement
 pub mod Readings
 pub mod Outcomes
 pub mod Demands
-pub mod Five
+pub mod Each
 pub mod Marks
 pub mod Shift
 pub mod Worked

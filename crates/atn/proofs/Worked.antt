@@ -13,7 +13,7 @@ use Rattle.atn.specs.Format.{Fmt, num, small, out, lack}
 use Rattle.atn.specs.Format as format
 use Rattle.atn.specs.Reading.{Rec, rec, Ans, ok, stop, mark, or, unless, over, word, octets, packs, pack, coded, spanned, glue, tardy, late, then, times, fork, guard, fetch, pull, sized, letters, units, short, long, fragment, lengths, lengthThen, flags, unreadMark, unreadMarks, within, shut, close, kept, passOver, softly, giveUp, laxly, read, readFields, readChoice}
 use Rattle.atn.specs.Messages.{argumentOf, elements, dateTimeGroup, levelType, messageData}
-use Rattle.atn.specs.Entries.{Reply, accept, ranOut, badly, unsupplied, stopped, reply, readFrame, afterOut, afterBad, orElse, flat, need, settle, decide, enter, frame-fits, table-fits, direction-fits, pdus, parse-pdus, parse-apdu, parse-cm-ground, parse-cm-logon, parse-acse-apdu}
+use Rattle.atn.specs.Entries.{Reply, accept, ranOut, badly, unsupplied, stopped, reply, readFrame, afterOut, afterBad, orElse, flat, need, settle, decide, enter, frame-fits, table-fits, direction-fits, pdus, cmOf, parse-pdus, parse-apdu, parse-cm, parse-acse-apdu}
 use Rattle.atn.specs.Worked.{Entry, downlink, uplink, apdu, cm-ground, cm-logon, acse-apdu, Question, range, field, count-of, length-of, small-octets, frame, told, records-of, without-words, zeros, Written, bits, records, is, bad, whole, cut, refuses, other, Row, _gives_, written, worked, raw-bytes, raw-place, small-bytes, down, up, lent, enters, only, valuesIn, of-answer, told-in, counted}
 use Rattle.atn.specs.Tags as tag
 
@@ -60,7 +60,7 @@ unfolding reply stopped read then late glue tardy times fork guard fetch pull si
 readBits f l = reply (read f (0, 0) (λ i. getD l i 0) (length l) 0)
 
 unfoldable pub given : Question → Written
-unfolding width extent bitOf only valuesIn of-answer told-in counted readBits lent one enters parse-pdus parse-apdu parse-cm-ground parse-cm-logon parse-acse-apdu pdus enter decide frame-fits table-fits direction-fits settle need flat orElse afterBad afterOut readFrame down up
+unfolding width extent bitOf only valuesIn of-answer told-in counted readBits lent one enters parse-pdus parse-apdu parse-cm parse-acse-apdu pdus cmOf enter decide frame-fits table-fits direction-fits settle need flat orElse afterBad afterOut readFrame down up
 given (range lo hi) = bits (width (extent lo hi))
 given (field lo hi r) = one (read (num 0 lo hi) (0, 0) (bitOf (raw-bytes r)) 16 (raw-place (width (extent lo hi))))
 given (count-of lo hi r) = one (sized (bitOf (raw-bytes r)) 16 (raw-place (width (hi - lo))) lo hi λ n p. alone n 16 p)

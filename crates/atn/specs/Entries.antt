@@ -1,4 +1,4 @@
--- The five entries: the complete answer, and what the lent words hold afterwards, as functions of frame, tables, direction and words.
+-- The four entries: the complete answer, and what the lent words hold afterwards, as functions of frame, tables, direction and words.
 use mathlib.Core.Bool.{Bool, true, false, cond, _&&_}
 use mathlib.Core.List.{List, [], _∷_, _++_}
 use Prim.Native.Nat.{ℕ, zero, suc, _+_, _*_, max}
@@ -121,11 +121,16 @@ parse-pdus s d down up w = enter (pdus-tests d down up) (λ f. readFrame (pdus d
 unfoldable pub parse-apdu : List ℕ → List ℕ → List ℕ → List ℕ → Outcome
 parse-apdu s down up w = enter (apdu-tests down up) (λ f. orElse (readFrame (aircraftPdus down) f) (readFrame (groundPdus down up) f)) s w
 
-unfoldable pub parse-cm-ground : List ℕ → List ℕ → Outcome
-parse-cm-ground s w = enter [] (λ f. readFrame cmGround f) s w
+-- Context Management: direction 0 is the aircraft's message, 1 the ground's
+unfoldable pub cmOf : ℕ → Fmt
+cmOf zero = cmAircraft
+cmOf (suc d) = cmGround
 
-unfoldable pub parse-cm-logon : List ℕ → List ℕ → Outcome
-parse-cm-logon s w = enter [] (λ f. readFrame cmAircraft f) s w
+abbrev pub cm-tests : ℕ → List Test
+cm-tests d = test (direction-fits d) 3 ∷ []
+
+unfoldable pub parse-cm : List ℕ → ℕ → List ℕ → Outcome
+parse-cm s d w = enter (cm-tests d) (λ f. readFrame (cmOf d) f) s w
 
 unfoldable pub parse-acse-apdu : List ℕ → List ℕ → Outcome
 parse-acse-apdu s w = enter [] (λ f. readFrame acse f) s w

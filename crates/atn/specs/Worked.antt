@@ -5,7 +5,7 @@ use Prim.Native.Nat.{ℕ, _-_, _/_, _%_}
 use lib.ListN.{length, take, replicate}
 use lib.Dec.{eqb}
 use Rattle.atn.specs.Schema.{minus}
-use Rattle.atn.specs.Entries.{Answer, accepted, refused, Outcome, parse-pdus, parse-apdu, parse-cm-ground, parse-cm-logon, parse-acse-apdu}
+use Rattle.atn.specs.Entries.{Answer, accepted, refused, Outcome, parse-pdus, parse-apdu, parse-cm, parse-acse-apdu}
 use Rattle.atn.specs.Tags as tag
 
 pub data Entry : Type 0 where
@@ -138,8 +138,8 @@ unfoldable pub enters : Entry → List ℕ → List ℕ → Outcome
 enters downlink s w = parse-pdus s 0 down up w
 enters uplink s w = parse-pdus s 1 down up w
 enters apdu s w = parse-apdu s down up w
-enters cm-ground s w = parse-cm-ground s w
-enters cm-logon s w = parse-cm-logon s w
+enters cm-logon s w = parse-cm s 0 w
+enters cm-ground s w = parse-cm s 1 w
 enters acse-apdu s w = parse-acse-apdu s w
 
 ---------------------------------------------------------------- how an answer is written

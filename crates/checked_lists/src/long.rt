@@ -1,6 +1,6 @@
 // A logon request with twenty applications: 4 records and 60, more than the 48 that the checker's fewer words hold.
 use super::line::print;
-use cm::parse_cm_logon;
+use cm::parse_cm;
 use list_checker::check_list;
 use list_checker::entries::Entry;
 
@@ -15,7 +15,7 @@ fn logon() -> [u8; 60] {
 
 fn records() -> [u64; 260] {
     let mut words = [0u64; 260];
-    parse_cm_logon(&logon(), &mut words);
+    parse_cm(&logon(), 0, &mut words);
     words
 }
 

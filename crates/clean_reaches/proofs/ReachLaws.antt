@@ -15,6 +15,7 @@ use Rattle.atn.specs.Entries as entries
 use Rattle.cursor.specs.declared.place.Cursor.{Cursor}
 use Rattle.cursor.specs.Place.{Led, stayed, went, failed, Takes}
 use Rattle.cm_pdus.specs.Pdus.{pduOf}
+use Rattle.cm_pdus.proofs.Sides.{by-direction}
 use Rattle.verdicts.specs.declared.Verdict.{Verdict}
 use Rattle.verdicts.specs.Verdicts.{verdictOf}
 use Rattle.message_runs.specs.declared.Kind.the-variants.{Cm}
@@ -87,6 +88,4 @@ module _ (f : Fmt) (s : List ℕ) where
 
 pub cm-format : (d : ℕ) (down up : List ℕ) → d ≤ 1 → pduOf (eqb d 1) ≡ formatOf Cm d down up
 unfolding formatOf
-cm-format zero down up l = refl
-cm-format (suc zero) down up l = refl
-cm-format (suc (suc d)) down up l = absurd (omega arith)
+cm-format d down up l = by-direction d l

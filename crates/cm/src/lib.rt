@@ -1,10 +1,12 @@
-// Context management: `parse_cm_ground` and `parse_cm_logon`. A message is told as it is read, into spare words first, so that a refusal leaves the lent ones and the number of records is known before any is written.
+// Context Management: `parse_cm`. A message is told as it is read, into spare words first, so that a refusal leaves the lent ones and the number of records is known before any is written.
 ghost use mathlib.Core.Bool.{false};
 ghost use mathlib.Core.Path.{_≡_};
-ghost use Rattle.atn.specs.Entries.{parse-cm-ground, parse-cm-logon};
+ghost use Prim.Native.Nat.{_≤_};
+ghost use lib.ListN.{length};
+ghost use Rattle.atn.specs.Entries.{parse-cm, readFrame, settle};
 ghost use Rattle.answers.specs.declared.Answer.the-variants.{Accepted, Refused};
 ghost use Rattle.answers.specs.Says.{Says};
-ghost use Rattle.cm.specs.Parsed.{parsed};
+ghost use Rattle.cm_pdus.specs.Pdus.{pduOf};
 use answers::Answer;
 use cm_parts::parts::Step;
 use cm_pdus::pdu;
@@ -16,25 +18,24 @@ use spare_words::copy;
 // The bytes of the longest frame.
 const LONGEST: usize = 8192;
 
-pub fn parse_cm_ground(frame: &[u8], words: &mut [u64]) -> Answer
-    ensures { λ r. ⌜ Says r (now (words .exit)) (parse-cm-ground (now (frame .entry)) (now (words .entry))) ⌝ }
-{
-    parse(frame, words, true)
-}
-
-pub fn parse_cm_logon(frame: &[u8], words: &mut [u64]) -> Answer
-    ensures { λ r. ⌜ Says r (now (words .exit)) (parse-cm-logon (now (frame .entry)) (now (words .entry))) ⌝ }
-{
-    parse(frame, words, false)
-}
-
-// The reading decides before its records are written.
-fn parse(frame: &[u8], words: &mut [u64], ground: bool) -> Answer
-    ensures { λ r. ⌜ Says r (now (words .exit)) (parsed ground (now (frame .entry)) (now (words .entry))) ⌝ }
+// Direction 0 is the aircraft's message, 1 the ground's.
+pub fn parse_cm(frame: &[u8], direction: u64, words: &mut [u64]) -> Answer
+    ensures { λ r. ⌜ Says r (now (words .exit)) (parse-cm (now (frame .entry)) direction (now (words .entry))) ⌝ }
 {
     if LONGEST < frame.len() {
         return refused(1, 0, 0);
     }
+    if 1 < direction {
+        return refused(3, 0, 0);
+    }
+    answer(frame, words, direction == 1)
+}
+
+// The reading decides before its records are written.
+fn answer(frame: &[u8], words: &mut [u64], ground: bool) -> Answer
+    requires { ⌜ length (now frame) ≤ 8192 ⌝ }
+    ensures { λ r. ⌜ Says r (now (words .exit)) (settle (readFrame (pduOf ground) (now (frame .entry))) (now (words .entry))) ⌝ }
+{
     let start = Cursor {
         at: 0,
         end: frame.len() * 8,

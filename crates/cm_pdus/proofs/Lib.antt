@@ -1,1 +1,2 @@
 pub mod PduLaws
+pub mod Sides

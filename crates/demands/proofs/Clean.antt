@@ -5,12 +5,12 @@ use mathlib.Core.List.{List, [], _++_}
 use Prim.Native.Nat.{ℕ, _≤_}
 use lib.ListN.{length, drop}
 use Rattle.atn.specs.Format.{Fmt}
-use Rattle.atn.specs.Messages.{cmGround, cmAircraft, acse}
+use Rattle.atn.specs.Messages.{acse}
 use Rattle.atn.specs.Reading.{Rec}
-use Rattle.atn.specs.Entries.{Outcome, flat, need, Test, frame-fits, pdus, pdus-tests, parse-pdus, parse-cm-ground, parse-cm-logon, parse-acse-apdu}
+use Rattle.atn.specs.Entries.{Outcome, flat, need, Test, frame-fits, pdus, pdus-tests, cmOf, cm-tests, parse-pdus, parse-cm, parse-acse-apdu}
 use Rattle.atn.proofs.Demands.{Message}
 use Rattle.atn.proofs.Outcomes.{passes}
-use Rattle.atn.proofs.Five.{ReadsClean, parse-pdus-clean, parse-cm-ground-clean, parse-cm-logon-clean, parse-acse-apdu-clean}
+use Rattle.atn.proofs.Each.{ReadsClean, parse-pdus-clean, parse-cm-clean, parse-acse-apdu-clean}
 use Rattle.answers.specs.declared.Answer.{Answer}
 use Rattle.answers.specs.declared.Answer.the-variants.{Accepted}
 use Rattle.answers.specs.Says.{Says}
@@ -29,11 +29,8 @@ cleanly ts f P c =
 pub clean-parse-pdus : (d : ℕ) (down up : List ℕ) → Cleanly (pdus-tests d down up) (pdus d down up) (λ s w. parse-pdus s d down up w)
 clean-parse-pdus d down up = cleanly (pdus-tests d down up) (pdus d down up) (λ s w. parse-pdus s d down up w) (parse-pdus-clean d down up)
 
-pub clean-parse-cm-ground : Cleanly [] cmGround (λ s w. parse-cm-ground s w)
-clean-parse-cm-ground = cleanly [] cmGround (λ s w. parse-cm-ground s w) parse-cm-ground-clean
-
-pub clean-parse-cm-logon : Cleanly [] cmAircraft (λ s w. parse-cm-logon s w)
-clean-parse-cm-logon = cleanly [] cmAircraft (λ s w. parse-cm-logon s w) parse-cm-logon-clean
+pub clean-parse-cm : (d : ℕ) → Cleanly (cm-tests d) (cmOf d) (λ s w. parse-cm s d w)
+clean-parse-cm d = cleanly (cm-tests d) (cmOf d) (λ s w. parse-cm s d w) (parse-cm-clean d)
 
 pub clean-parse-acse-apdu : Cleanly [] acse (λ s w. parse-acse-apdu s w)
 clean-parse-acse-apdu = cleanly [] acse (λ s w. parse-acse-apdu s w) parse-acse-apdu-clean

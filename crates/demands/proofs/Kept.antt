@@ -8,7 +8,7 @@ use lib.ListN.{length, take}
 use Rattle.atn.specs.Entries.{Reply, accept, ranOut, badly, unsupplied, Outcome, accepted, refused, Test}
 use Rattle.atn.specs.Entries as entries
 use Rattle.atn.proofs.Demands.{Shares, CutOrOut, cut, ended, Enough}
-use Rattle.atn.proofs.Five.{Owes}
+use Rattle.atn.proofs.Each.{Owes}
 use Rattle.answers.specs.declared.Answer.{Answer}
 use Rattle.answers.specs.declared.Answer.the-variants.{Accepted, Refused}
 use Rattle.answers.specs.Says.{answerOf, Says}

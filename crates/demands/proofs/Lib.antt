@@ -1,4 +1,5 @@
 pub mod Kept
-pub mod Five
+pub mod Each
 pub mod Clean
 pub mod Worked
+pub mod OneDoor

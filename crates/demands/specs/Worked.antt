@@ -45,7 +45,7 @@ Only (count-of lo hi r) a = (k : ℕ) (g : Got) → lowest k ≡ lo → highest 
 Only (length-of s) a = (l : Measured) → Measures s (from s 0) l → found (l .c .why) (l .c .marks) (l .count) ≡ a
 -- `length_determinants::small`, behind the mark that its caller makes
 Only (small-octets cs) a = (g : Got) → Smalls (small-bytes cs) (marked (from (small-bytes cs) 7) 2) g → of-got g ≡ a
--- the five entries
+-- the entries
 Only (frame e s) a = (r : Answer) (w : List ℕ) → Says r w (enters e s lent) → of-answer (answerOf r) ≡ a
 Only (told e t s) a = (r : Answer) (w : List ℕ) → Says r w (enters e s lent) → told-in t (answerOf r) w ≡ a
 Only (records-of e s) a = (r : Answer) (w : List ℕ) → Says r w (enters e s lent) → counted (answerOf r) ≡ a

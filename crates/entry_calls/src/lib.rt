@@ -3,8 +3,7 @@ ghost use Rattle.answers.specs.Says.{Says};
 ghost use Rattle.entry_calls.specs.Calls.{outcome};
 use acse::parse_acse_apdu;
 use answers::Answer;
-use cm::parse_cm_ground;
-use cm::parse_cm_logon;
+use cm::parse_cm;
 use cpdlc::parse_apdu;
 use cpdlc::parse_pdus;
 use entry_names::Entry;
@@ -22,8 +21,7 @@ pub fn call(
     match entry {
         Entry::Apdu => parse_apdu(frame, down, up, words),
         Entry::Pdus => parse_pdus(frame, direction, down, up, words),
-        Entry::CmGround => parse_cm_ground(frame, words),
-        Entry::CmLogon => parse_cm_logon(frame, words),
+        Entry::Cm => parse_cm(frame, direction, words),
         Entry::Acse => parse_acse_apdu(frame, words),
         Entry::Unknown => Answer::Refused {
             number: 0,

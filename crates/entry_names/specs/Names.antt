@@ -4,7 +4,7 @@ use mathlib.Core.Bool.{Bool, true, false}
 use mathlib.Core.List.{List, [], _∷_}
 use Prim.Native.Nat.{ℕ}
 use Rattle.entry_names.specs.declared.Entry.{Entry}
-use Rattle.entry_names.specs.declared.Entry.the-variants.{Apdu, Pdus, CmGround, CmLogon, Acse, Unknown}
+use Rattle.entry_names.specs.declared.Entry.the-variants.{Apdu, Pdus, Cm, Acse, Unknown}
 
 abbrev apdu : List ℕ
 apdu = 97 ∷ 112 ∷ 100 ∷ 117 ∷ []
@@ -12,11 +12,8 @@ apdu = 97 ∷ 112 ∷ 100 ∷ 117 ∷ []
 abbrev pdus : List ℕ
 pdus = 112 ∷ 100 ∷ 117 ∷ 115 ∷ []
 
-abbrev cm-ground : List ℕ
-cm-ground = 99 ∷ 109 ∷ 95 ∷ 103 ∷ 114 ∷ 111 ∷ 117 ∷ 110 ∷ 100 ∷ []
-
-abbrev cm-logon : List ℕ
-cm-logon = 99 ∷ 109 ∷ 95 ∷ 108 ∷ 111 ∷ 103 ∷ 111 ∷ 110 ∷ []
+abbrev cm : List ℕ
+cm = 99 ∷ 109 ∷ []
 
 abbrev acse : List ℕ
 acse = 97 ∷ 99 ∷ 115 ∷ 101 ∷ []
@@ -25,23 +22,20 @@ acse = 97 ∷ 99 ∷ 115 ∷ 101 ∷ []
 abbrev pub Names : List ℕ → Entry → Type 0
 Names s Apdu = s ≡ apdu
 Names s Pdus = s ≡ pdus
-Names s CmGround = s ≡ cm-ground
-Names s CmLogon = s ≡ cm-logon
+Names s Cm = s ≡ cm
 Names s Acse = s ≡ acse
-Names s Unknown = (s ≡ apdu → ⊥) × (s ≡ pdus → ⊥) × (s ≡ cm-ground → ⊥) × (s ≡ cm-logon → ⊥) × (s ≡ acse → ⊥)
+Names s Unknown = (s ≡ apdu → ⊥) × (s ≡ pdus → ⊥) × (s ≡ cm → ⊥) × (s ≡ acse → ⊥)
 
 abbrev pub isEntry : Entry → Bool
 isEntry Apdu = true
 isEntry Pdus = true
-isEntry CmGround = true
-isEntry CmLogon = true
+isEntry Cm = true
 isEntry Acse = true
 isEntry Unknown = false
 
 abbrev pub isDirected : Entry → Bool
 isDirected Apdu = false
 isDirected Pdus = true
-isDirected CmGround = false
-isDirected CmLogon = false
+isDirected Cm = true
 isDirected Acse = false
 isDirected Unknown = false

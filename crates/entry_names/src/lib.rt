@@ -1,4 +1,4 @@
-// The five entries by name.
+// The four entries by name.
 ghost use mathlib.Core.Path.{_≡_};
 ghost use Rattle.entry_names.specs.Names.{Names, isEntry, isDirected};
 use check::same;
@@ -6,8 +6,7 @@ use check::same;
 pub enum Entry {
     Apdu,
     Pdus,
-    CmGround,
-    CmLogon,
+    Cm,
     Acse,
     Unknown,
 }
@@ -19,10 +18,8 @@ pub fn named(name: &[u8]) -> Entry
         Entry::Apdu
     } else if same(name, b"pdus") {
         Entry::Pdus
-    } else if same(name, b"cm_ground") {
-        Entry::CmGround
-    } else if same(name, b"cm_logon") {
-        Entry::CmLogon
+    } else if same(name, b"cm") {
+        Entry::Cm
     } else if same(name, b"acse") {
         Entry::Acse
     } else {
@@ -36,8 +33,7 @@ pub fn is_there(e: Entry) -> bool
     match e {
         Entry::Apdu => true,
         Entry::Pdus => true,
-        Entry::CmGround => true,
-        Entry::CmLogon => true,
+        Entry::Cm => true,
         Entry::Acse => true,
         Entry::Unknown => false,
     }
@@ -50,8 +46,7 @@ pub fn has_direction(e: Entry) -> bool
     match e {
         Entry::Apdu => false,
         Entry::Pdus => true,
-        Entry::CmGround => false,
-        Entry::CmLogon => false,
+        Entry::Cm => true,
         Entry::Acse => false,
         Entry::Unknown => false,
     }

@@ -7,10 +7,10 @@ use Prim.Native.Nat.{ℕ, _≤_}
 use lib.ListN.{length, drop}
 use Rattle.atn.specs.Format.{Fmt}
 use Rattle.atn.specs.Reading.{Rec}
-use Rattle.atn.specs.Messages.{cmGround, cmAircraft, acse}
-use Rattle.atn.specs.Entries.{Reply, accept, readFrame, accepted, Outcome, flat, need, Test, test, enter, frame-fits, pdus, pdus-tests, parse-pdus, parse-cm-ground, parse-cm-logon, parse-acse-apdu}
+use Rattle.atn.specs.Messages.{acse}
+use Rattle.atn.specs.Entries.{Reply, accept, readFrame, accepted, Outcome, flat, need, Test, test, enter, frame-fits, pdus, pdus-tests, cmOf, cm-tests, parse-pdus, parse-cm, parse-acse-apdu}
 use Rattle.atn.proofs.Outcomes.{passes, settle-fits, decide-go}
-use Rattle.record_lists.specs.Kinds.{cmOf, kindOf}
+use Rattle.record_lists.specs.Kinds.{kindOf}
 use Rattle.record_lists.specs.Message.{bytesOf}
 use Rattle.record_lists.specs.Most.{most}
 use Rattle.fixture_promises.proofs.RoundTrip.{ReadBack}
@@ -41,15 +41,10 @@ module _ {k d : ℕ} {down up W s out : List ℕ} {n : ℕ} {out′ : List ℕ} 
   unfolding parse-pdus passes kindOf
   pdus-returned e = by-format (pdus-tests d down up) (pdus d down up) (rw (x .tables, x .direction)) (rw e)
 
-  -- an aircraft's Context Management message
-  pub logon-returned : k ≡ 1 → d ≡ 0 → Returned (parse-cm-logon (bytesOf (x .bits)) w)
-  unfolding parse-cm-logon passes kindOf cmOf
-  logon-returned e g = by-format [] cmAircraft refl (rw (e, g))
-
-  -- a ground Context Management message
-  pub ground-returned : k ≡ 1 → d ≡ 1 → Returned (parse-cm-ground (bytesOf (x .bits)) w)
-  unfolding parse-cm-ground passes kindOf cmOf
-  ground-returned e g = by-format [] cmGround refl (rw (e, g))
+  -- a Context Management message, in its direction
+  pub cm-returned : k ≡ 1 → Returned (parse-cm (bytesOf (x .bits)) d w)
+  unfolding parse-cm passes kindOf
+  cm-returned e = by-format (cm-tests d) (cmOf d) (rw (x .direction)) (rw e)
 
   -- an association control message, whatever the direction
   pub acse-returned : k ≡ 2 → Returned (parse-acse-apdu (bytesOf (x .bits)) w)

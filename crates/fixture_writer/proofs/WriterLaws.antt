@@ -13,11 +13,11 @@ use Rattle.x691.specs.Types.{Value}
 use Rattle.x691.specs.Encoding.{encode}
 use Rattle.x691.specs.Range.{All, InRange}
 use Rattle.atn.specs.Format.{Fmt, typeOf}
-use Rattle.atn.specs.Entries.{table-fits, direction-fits, pdus}
+use Rattle.atn.specs.Entries.{table-fits, direction-fits, pdus, cmOf}
 use Rattle.atn.specs.Messages.{acse}
 use Rattle.bit_writer.specs.Put.{setBits}
 use Rattle.record_lists.specs.Items.{Item, look, inside}
-use Rattle.record_lists.specs.Kinds.{spanTag, cmOf, kindOf}
+use Rattle.record_lists.specs.Kinds.{spanTag, kindOf}
 use Rattle.record_lists.specs.Parse.{Got, no, got, parse}
 use Rattle.record_lists.specs.Write.{encoded, write}
 use Rattle.record_lists.specs.Message.{recordsFrom, recordsOf, bytesNeeded, bytesOf, list-fits, bitsOfMessage, settled, write-message}

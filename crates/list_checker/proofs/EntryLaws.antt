@@ -7,14 +7,14 @@ use native.Mathlib.Omega.{arith}
 use lib.ListN.{length}
 use Rattle.atn.specs.Reading.{Rec}
 use Rattle.atn.specs.Messages.{aircraftPdus, groundPdus, cmGround, cmAircraft, acse}
-use Rattle.atn.specs.Entries.{Reply, accept, ranOut, badly, unsupplied, orElse, afterOut, afterBad, readFrame, Test, test, frame-fits, decide, enter, pdus, parse-pdus, parse-apdu, parse-acse-apdu}
+use Rattle.atn.specs.Entries.{Reply, accept, ranOut, badly, unsupplied, orElse, afterOut, afterBad, readFrame, Test, test, frame-fits, decide, enter, pdus, cmOf, parse-pdus, parse-apdu, parse-cm, parse-acse-apdu}
 use Rattle.atn.proofs.Outcomes.{early}
 use Rattle.record_bounds.specs.Most.{most}
 use Rattle.record_bounds.proofs.Fewer.{clean-few}
 use Rattle.record_bounds.proofs.Messages.{pdus-most, cm-ground-most, cm-aircraft-most, acse-most}
 use Rattle.list_checker.specs.declared.entries.Entry.{Entry}
 use Rattle.list_checker.specs.declared.entries.Entry.the-variants.{Apdu, Pdus, Cm, Acse}
-use Rattle.list_checker.specs.Entered.{cmOf, parse-cm, entered, testsOf, readingOf}
+use Rattle.list_checker.specs.Entered.{entered, testsOf, readingOf}
 
 -- the frame's length is tested first
 abbrev pub allTests : List ℕ → Entry → List ℕ → List ℕ → List Test

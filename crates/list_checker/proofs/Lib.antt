@@ -1,4 +1,3 @@
 pub mod EntryLaws
-pub mod CmLaws
 pub mod JudgeLaws
 pub mod Exactly

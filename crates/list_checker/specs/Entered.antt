@@ -1,22 +1,10 @@
 -- The entries by name: what each gives, what it tests behind the frame's length, and its reading.
 use mathlib.Core.List.{List, [], _∷_}
-use Prim.Native.Nat.{ℕ, zero, suc}
-use Rattle.atn.specs.Format.{Fmt}
-use Rattle.atn.specs.Messages.{aircraftPdus, groundPdus, cmGround, cmAircraft, acse}
-use Rattle.atn.specs.Entries.{Reply, orElse, readFrame, Outcome, Test, test, direction-fits, enter, pdus, pdus-tests, apdu-tests, parse-pdus, parse-apdu, parse-acse-apdu}
+use Prim.Native.Nat.{ℕ}
+use Rattle.atn.specs.Messages.{aircraftPdus, groundPdus, acse}
+use Rattle.atn.specs.Entries.{Reply, orElse, readFrame, Outcome, Test, pdus, pdus-tests, apdu-tests, cmOf, cm-tests, parse-pdus, parse-apdu, parse-cm, parse-acse-apdu}
 use Rattle.list_checker.specs.declared.entries.Entry.{Entry}
 use Rattle.list_checker.specs.declared.entries.Entry.the-variants.{Apdu, Pdus, Cm, Acse}
-
--- Context Management: direction 0 is the aircraft's message, 1 the ground's
-unfoldable pub cmOf : ℕ → Fmt
-cmOf zero = cmAircraft
-cmOf (suc d) = cmGround
-
-abbrev pub cm-tests : ℕ → List Test
-cm-tests d = test (direction-fits d) 3 ∷ []
-
-unfoldable pub parse-cm : List ℕ → ℕ → List ℕ → Outcome
-parse-cm s d w = enter (cm-tests d) (λ f. readFrame (cmOf d) f) s w
 
 -- entry, tables, frame, lent words
 unfoldable pub entered : Entry → List ℕ → List ℕ → List ℕ → List ℕ → Outcome

@@ -1,10 +1,9 @@
 // The entries, and the call of one.
 ghost use Rattle.answers.specs.Says.{Says};
-ghost use Rattle.list_checker.specs.Entered.{entered, parse-cm};
+ghost use Rattle.list_checker.specs.Entered.{entered};
 use acse::parse_acse_apdu;
 use answers::Answer;
-use cm::parse_cm_ground;
-use cm::parse_cm_logon;
+use cm::parse_cm;
 use cpdlc::parse_apdu;
 use cpdlc::parse_pdus;
 
@@ -22,34 +21,7 @@ pub fn read(frame: &[u8], entry: Entry, down: &[u8], up: &[u8], words: &mut [u64
     match entry {
         Entry::Apdu => parse_apdu(frame, down, up, words),
         Entry::Pdus(direction) => parse_pdus(frame, direction, down, up, words),
-        Entry::Cm(direction) => read_cm(frame, direction, words),
+        Entry::Cm(direction) => parse_cm(frame, direction, words),
         Entry::Acse => parse_acse_apdu(frame, words),
-    }
-}
-
-// The bytes of the longest frame.
-const LONGEST: usize = 8192;
-
-// Context Management by its direction.
-fn read_cm(frame: &[u8], direction: u64, words: &mut [u64]) -> Answer
-    ensures { λ r. ⌜ Says r (now (words .exit)) (parse-cm (now (frame .entry)) direction (now (words .entry))) ⌝ }
-{
-    if LONGEST < frame.len() {
-        return Answer::Refused {
-            number: 1,
-            reach: 0,
-            need: 0,
-        };
-    }
-    if direction == 0 {
-        return parse_cm_logon(frame, words);
-    }
-    if direction == 1 {
-        return parse_cm_ground(frame, words);
-    }
-    Answer::Refused {
-        number: 3,
-        reach: 0,
-        need: 0,
     }
 }

@@ -14,9 +14,9 @@ use Rattle.per.proofs.Widths.{width-le}
 use Rattle.atn.specs.Format.{Fmt, alternativesOf}
 use Rattle.atn.specs.Reading.{flags}
 use Rattle.atn.specs.Messages.{noReader, arguments, argumentOf, elements, constrainedData, messageData, atcMessage, aircraftPdus, groundPdus, cmGround, cmAircraft, acse}
-use Rattle.atn.specs.Entries.{pdus}
+use Rattle.atn.specs.Entries.{pdus, cmOf}
 use Rattle.atn.proofs.Inverse.{both}
-use Rattle.record_lists.specs.Kinds.{cmOf, kindOf}
+use Rattle.record_lists.specs.Kinds.{kindOf}
 use Rattle.record_lists.specs.Most.{most, mostAlts}
 use Rattle.message_nodes.specs.Table.{table}
 use Rattle.message_nodes.proofs.Meaning.{some-is, nothing}

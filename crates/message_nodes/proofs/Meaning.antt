@@ -9,8 +9,8 @@ use Rattle.atn.specs.Tags as tag
 use Rattle.atn.specs.Format.{Fmt, num, span, anySpan, skipped, noted, ext, seq, choice, inner, soft, lax}
 use Rattle.atn.specs.Format.{end, _⨾_, _⨾?_, orNote, none-left, _∥_}
 use Rattle.atn.specs.Messages.{ia5, noReader, extReason, dateTimeGroup, messageData, atcMessage, extensionAlternative, aircraftPdus, groundPdus, cmGround, cmAircraft, acse}
-use Rattle.atn.specs.Entries.{pdus}
-use Rattle.record_lists.specs.Kinds.{cmOf, kindOf}
+use Rattle.atn.specs.Entries.{pdus, cmOf}
+use Rattle.record_lists.specs.Kinds.{kindOf}
 use Rattle.node_tables.specs.Nodes.{nodeWord, memberOf, membersFrom, alternativesFrom, formatOf, formatAt}
 use Rattle.message_nodes.specs.Table.{table, depth, downMessageRoot, downCarriedRoot, upMessageRoot, upCarriedRoot, downlinkRoot, uplinkRoot, cmAircraftRoot, cmGroundRoot, acseRoot}
 use Rattle.message_nodes.specs.Roots.{byDirection, rootOf}

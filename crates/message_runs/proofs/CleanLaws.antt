@@ -12,7 +12,7 @@ use Rattle.x691.specs.Encoding.{encode}
 use Rattle.x691.proofs.BitLaws.{bitOf-agree}
 use Rattle.atn.specs.Format.{Fmt, typeOf}
 use Rattle.atn.specs.Reading.{Rec}
-use Rattle.atn.specs.Entries.{Reply, accept, ranOut, badly, unsupplied, readFrame, pdus}
+use Rattle.atn.specs.Entries.{Reply, accept, ranOut, badly, unsupplied, readFrame, pdus, cmOf}
 use Rattle.atn.proofs.SameBits.{Agree}
 use Rattle.atn.proofs.Readings.{replyReach, closed, format-keeps}
 use Rattle.atn.proofs.Demands.{clean-message}
@@ -72,7 +72,7 @@ module _ (f : Fmt) (s : List ℕ) {p : ℕ} (h : cleanReach (readFrame f s) ≡ 
 
 -- every message begins with its extension bit
 encoded : (k : Kind) (d : ℕ) (down up : List ℕ) (v : _) → 0 < length (encode (typeOf (formatOf k d down up)) v)
-unfolding formatOf encode pdus
+unfolding formatOf encode pdus cmOf
 encoded Cpdlc zero down up v = omega arith
 encoded Cpdlc (suc d) down up v = omega arith
 encoded Cm zero down up v = omega arith

@@ -13,7 +13,7 @@ use Rattle.x691.proofs.Unique.{none-begins}
 use Rattle.atn.specs.Format.{Fmt, typeOf}
 use Rattle.atn.specs.Messages.{acse}
 use Rattle.atn.specs.Reading.{Rec}
-use Rattle.atn.specs.Entries.{accept, readFrame, Test, Outcome, enter, pdus, pdus-tests, parse-pdus, parse-acse-apdu}
+use Rattle.atn.specs.Entries.{accept, readFrame, Test, Outcome, enter, pdus, pdus-tests, cmOf, cm-tests, parse-pdus, parse-cm, parse-acse-apdu}
 use Rattle.atn.proofs.SameBits.{Agree}
 use Rattle.atn.proofs.Demands.{clean-sound}
 use Rattle.message_runs.specs.Runs.{cleanReach}
@@ -61,6 +61,10 @@ module _ (ts : List Test) (f : Fmt) where
 pub pdus-neither : (d : ℕ) (down up : List ℕ) {m n : List ℕ} → CleanBits (λ s w. parse-pdus s d down up w) m → CleanBits (λ s w. parse-pdus s d down up w) n → (m ≡ n → ⊥) → (Begins m n → ⊥) × (Begins n m → ⊥)
 unfolding parse-pdus
 pdus-neither d down up = neither-begins (pdus-tests d down up) (pdus d down up)
+
+pub cm-neither : (d : ℕ) {m n : List ℕ} → CleanBits (λ s w. parse-cm s d w) m → CleanBits (λ s w. parse-cm s d w) n → (m ≡ n → ⊥) → (Begins m n → ⊥) × (Begins n m → ⊥)
+unfolding parse-cm
+cm-neither d = neither-begins (cm-tests d) (cmOf d)
 
 pub acse-neither : {m n : List ℕ} → CleanBits (λ s w. parse-acse-apdu s w) m → CleanBits (λ s w. parse-acse-apdu s w) n → (m ≡ n → ⊥) → (Begins m n → ⊥) × (Begins n m → ⊥)
 unfolding parse-acse-apdu

@@ -6,8 +6,8 @@ use Prim.Native.Nat.{ℕ, zero, suc, _+_, _-_, _/_}
 use lib.ListN.{length, drop}
 use lib.Dec.{leb, ltb}
 use Rattle.atn.specs.Format.{Fmt}
-use Rattle.atn.specs.Messages.{cmAircraft, cmGround, acse}
-use Rattle.atn.specs.Entries.{Reply, accept, ranOut, badly, unsupplied, readFrame, pdus, frame-fits, table-fits, direction-fits}
+use Rattle.atn.specs.Messages.{acse}
+use Rattle.atn.specs.Entries.{Reply, accept, ranOut, badly, unsupplied, readFrame, pdus, cmOf, frame-fits, table-fits, direction-fits}
 use Rattle.message_runs.specs.declared.Kind.{Kind}
 use Rattle.message_runs.specs.declared.Kind.the-variants.{Cpdlc, Cm, Acse}
 use Rattle.message_runs.specs.declared.Starts.{Starts}
@@ -16,8 +16,7 @@ use Rattle.message_runs.specs.declared.Starts.the-variants.{All, UpTo, R
 -- the messages of a kind: the aircraft's in direction 0, the ground's in direction 1; association control has no direction
 unfoldable pub formatOf : Kind → ℕ → List ℕ → List ℕ → Fmt
 formatOf Cpdlc d down up = pdus d down up
-formatOf Cm zero down up = cmAircraft
-formatOf Cm (suc d) down up = cmGround
+formatOf Cm d down up = cmOf d
 formatOf Acse d down up = acse
 
 -- "Clean means whole with no marks": the reach of a clean answer

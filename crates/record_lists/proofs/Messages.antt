@@ -10,10 +10,10 @@ use Rattle.x691.specs.Range.{member}
 use Rattle.atn.specs.Format.{Fmt}
 use Rattle.atn.specs.Messages.{noReader, arguments, argumentOf, elements, aircraftPdus, groundPdus, cmGround, cmAircraft, acse}
 use Rattle.atn.specs.Tags as tag
-use Rattle.atn.specs.Entries.{pdus}
+use Rattle.atn.specs.Entries.{pdus, cmOf}
 use Rattle.atn.proofs.Inverse.{both}
 use Rattle.record_lists.specs.Clear.{clear, clearAlts, clearFields, solid, solidFields, firsts, firstsFields, apart, ahead}
-use Rattle.record_lists.specs.Kinds.{spanTag, cmOf, kindOf}
+use Rattle.record_lists.specs.Kinds.{spanTag, kindOf}
 
 nothing : {A : Type 0} {f : Fmt} → none ≡ some f → A
 nothing h = let z : _≡_ {A = ℕ} 0 1 = cc in absurd (omega arith)

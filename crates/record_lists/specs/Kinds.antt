@@ -6,17 +6,12 @@ use Prim.Native.Nat.{ℕ, zero, suc}
 use Rattle.x691.specs.Range.{member}
 use Rattle.atn.specs.Format.{Fmt}
 use Rattle.atn.specs.Tags as tag
-use Rattle.atn.specs.Messages.{cmGround, cmAircraft, acse}
-use Rattle.atn.specs.Entries.{pdus}
+use Rattle.atn.specs.Messages.{acse}
+use Rattle.atn.specs.Entries.{pdus, cmOf}
 
 -- the tags of spans
 unfoldable pub spanTag : ℕ → Bool
 spanTag t = member t (tag.integrity-check ∷ tag.aircraft-address ∷ tag.rdp ∷ tag.ars ∷ tag.loc-sys-nsel-tsel ∷ [])
-
--- the aircraft's message in direction 0, the ground's in direction 1
-unfoldable pub cmOf : ℕ → Fmt
-cmOf zero = cmAircraft
-cmOf (suc d) = cmGround
 
 -- what association control says has no direction
 unfoldable pub kindOf : ℕ → ℕ → List ℕ → List ℕ → Option Fmt

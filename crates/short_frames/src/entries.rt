@@ -1,8 +1,7 @@
-// The three entries by number. Two records are the most that so short a frame of context management has, three of association control.
+// The messages by number. Two records are the most that so short a frame of Context Management has, three of association control.
 use acse::parse_acse_apdu;
 use answers::Answer;
-use cm::parse_cm_ground;
-use cm::parse_cm_logon;
+use cm::parse_cm;
 use listing::put_answer;
 use listing::put_text;
 
@@ -14,10 +13,10 @@ pub const ACSE: u64 = 2;
 
 pub fn put_entry(line: &mut [u8; 1024], n: usize, entry: u64) -> usize {
     if entry == CM_GROUND {
-        return put_text(line, n, b"cm_ground ");
+        return put_text(line, n, b"cm 1 ");
     }
     if entry == CM_LOGON {
-        return put_text(line, n, b"cm_logon ");
+        return put_text(line, n, b"cm 0 ");
     }
     put_text(line, n, b"acse ")
 }
@@ -31,10 +30,10 @@ pub fn ask(line: &mut [u8; 1024], entry: u64, frame: &[u8]) -> usize {
 
 fn parse(entry: u64, frame: &[u8], words: &mut [u64; 128]) -> Answer {
     if entry == CM_GROUND {
-        return parse_cm_ground(frame, words);
+        return parse_cm(frame, 1, words);
     }
     if entry == CM_LOGON {
-        return parse_cm_logon(frame, words);
+        return parse_cm(frame, 0, words);
     }
     parse_acse_apdu(frame, words)
 }

@@ -1,19 +1,18 @@
 // A case of each entry, with room for all its records.
 use super::line::print;
 use acse::parse_acse_apdu;
-use cm::parse_cm_ground;
-use cm::parse_cm_logon;
+use cm::parse_cm;
 
 pub fn cm_ground(frame: &[u8]) {
     let mut words = [0u64; 128];
-    let answer = parse_cm_ground(frame, &mut words);
-    print(b"cm_ground", frame, &words, answer);
+    let answer = parse_cm(frame, 1, &mut words);
+    print(b"cm 1", frame, &words, answer);
 }
 
 pub fn cm_logon(frame: &[u8]) {
     let mut words = [0u64; 128];
-    let answer = parse_cm_logon(frame, &mut words);
-    print(b"cm_logon", frame, &words, answer);
+    let answer = parse_cm(frame, 0, &mut words);
+    print(b"cm 0", frame, &words, answer);
 }
 
 pub fn acse(frame: &[u8]) {

@@ -1,23 +1,22 @@
 // What is refused before reading, and for want of room.
 use super::line::print;
 use acse::parse_acse_apdu;
-use cm::parse_cm_ground;
-use cm::parse_cm_logon;
+use cm::parse_cm;
 
 // 8,193 bytes, of which the first is printed.
 pub fn too_long() {
     let frame = [0u8; 8193];
     let mut words = [0u64; 128];
-    let ground = parse_cm_ground(&frame, &mut words);
+    let ground = parse_cm(&frame, 1, &mut words);
     print(
-        b"cm_ground, 8193 bytes that begin with",
+        b"cm 1, 8193 bytes that begin with",
         &frame[..1],
         &words,
         ground,
     );
-    let logon = parse_cm_logon(&frame, &mut words);
+    let logon = parse_cm(&frame, 0, &mut words);
     print(
-        b"cm_logon, 8193 bytes that begin with",
+        b"cm 0, 8193 bytes that begin with",
         &frame[..1],
         &words,
         logon,
@@ -45,6 +44,6 @@ fn acse_in_three(frame: &[u8]) {
 
 fn cm_logon_in_three(frame: &[u8]) {
     let mut words = [0u64; 128];
-    let answer = parse_cm_logon(frame, &mut words[..3]);
-    print(b"cm_logon, three words,", frame, &words, answer);
+    let answer = parse_cm(frame, 0, &mut words[..3]);
+    print(b"cm 0, three words,", frame, &words, answer);
 }

@@ -6,8 +6,7 @@ const { force, given, listed } = require('./values.js');
 const ENTRIES = {
   apdu: (entries, c) => entries['parse-apdu'](c.frame, c.down, c.up, c.words),
   pdus: (entries, c) => entries['parse-pdus'](c.frame, number(c.direction), c.down, c.up, c.words),
-  cm_ground: (entries, c) => entries['parse-cm-ground'](c.frame, c.words),
-  cm_logon: (entries, c) => entries['parse-cm-logon'](c.frame, c.words),
+  cm: (entries, c) => entries['parse-cm'](c.frame, number(c.direction), c.words),
   acse: (entries, c) => entries['parse-acse-apdu'](c.frame, c.words),
 };
 

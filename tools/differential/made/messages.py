@@ -33,7 +33,7 @@ class Case:
 
 
 # Entry and direction; the first two, which take tables, more often.
-ENTRIES = [("pdus", "0"), ("pdus", "1"), ("apdu", "-"), ("cm_ground", "-"), ("cm_logon", "-"), ("acse", "-")]
+ENTRIES = [("pdus", "0"), ("pdus", "1"), ("apdu", "-"), ("cm", "1"), ("cm", "0"), ("acse", "-")]
 WEIGHTS = [5, 5, 4, 2, 2, 2]
 WILD = [0.0, 0.0, 0.01, 0.05, 0.2]
 
@@ -44,7 +44,7 @@ def message(seed):
     entry, direction = choose.choices(ENTRIES, WEIGHTS)[0]
     make = Maker(choose.random(), choose.choice(WILD))
     if entry not in ("pdus", "apdu"):
-        getattr(others, entry)(make)
+        others.MADE[entry, direction](make)
         return Case(entry, direction, b"", b"", make.frame())
     down, up = cpdlc.table(choose), cpdlc.table(choose)
     uplink = choose.random() < 0.5 if entry == "apdu" else direction == "1"

@@ -92,3 +92,7 @@ def acse(make):
         reason(make, 1)
         if diagnostic:
             reason(make, 5)
+
+
+# By entry and direction.
+MADE = {("cm", "1"): cm_ground, ("cm", "0"): cm_logon, ("acse", "-"): acse}

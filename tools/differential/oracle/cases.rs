@@ -22,7 +22,7 @@ fn outside(entry: &str, direction: &str, down: &[u8], up: &[u8], frame: &[u8]) -
     let tables = entry == "apdu" || entry == "pdus";
     frame.len() > 8192
         || (tables && !(fits(down) && fits(up)))
-        || (entry == "pdus" && direction != "0" && direction != "1")
+        || ((entry == "pdus" || entry == "cm") && direction != "0" && direction != "1")
 }
 
 // A line of output for each line of input.

@@ -14,8 +14,8 @@ fn answer(case: &Case) -> String {
     begin(frame);
     match case.entry.as_str() {
         "pdus" => told(parse_pdus(frame, case.downlink)),
-        "cm_ground" => told(parse_cm_ground(frame)),
-        "cm_logon" => told(parse_cm_logon(frame)),
+        "cm" if case.downlink => told(parse_cm_logon(frame)),
+        "cm" => told(parse_cm_ground(frame)),
         "acse" => told(parse_acse_apdu(frame)),
         "apdu" => {
             let text = told(parse_apdu(frame));

@@ -120,8 +120,8 @@ fn answer(case: &Case) -> String {
     let frame = &case.frame;
     let (end, reach) = match case.entry.as_str() {
         "pdus" => read(frame, |f| parse_pdus(f, case.downlink)),
-        "cm_ground" => read(frame, parse_cm_ground),
-        "cm_logon" => read(frame, parse_cm_logon),
+        "cm" if case.downlink => read(frame, parse_cm_logon),
+        "cm" => read(frame, parse_cm_ground),
         "acse" => read(frame, parse_acse_apdu),
         "apdu" => both(frame),
         other => panic!("no such entry: {other}"),

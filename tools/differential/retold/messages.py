@@ -247,14 +247,14 @@ def acse(reads, given):
         reads.cut = True
 
 
-WITHOUT_TABLES = {"cm_ground": cm_ground, "cm_logon": cm_logon, "acse": acse}
+WITHOUT_TABLES = {("cm", "1"): cm_ground, ("cm", "0"): cm_logon, ("acse", "-"): acse}
 
 
 def retold(case, given, watched):
     """End, reach, marks and records of an accepted reading."""
     reads = Along(case.frame, watched)
-    if case.entry in WITHOUT_TABLES:
-        WITHOUT_TABLES[case.entry](reads, given)
+    if (case.entry, case.direction) in WITHOUT_TABLES:
+        WITHOUT_TABLES[case.entry, case.direction](reads, given)
     else:
         pdus(reads, given, case.down, case.up)
     end, reach = reads.done()

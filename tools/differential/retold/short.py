@@ -67,7 +67,7 @@ def marks(given, read):
 
 # The keys that a message of two bytes can have; any other would be told by nobody here.
 KEYS = {"application", "pdu", "note", "reason", "reason_text", "response", "abort_source", "abort_diagnostic"}
-ENTRIES = {"cm_ground": cm_ground, "cm_logon": cm_logon, "acse": acse}
+ENTRIES = {("cm", "1"): cm_ground, ("cm", "0"): cm_logon, ("acse", "-"): acse}
 
 
 def records(entry, given, numbers):

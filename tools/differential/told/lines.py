@@ -27,7 +27,7 @@ class Case:
             return 1
         if self.entry in ("apdu", "pdus") and not all(1 <= len(table) <= 256 for table in (self.down, self.up)):
             return 2
-        if self.entry == "pdus" and self.direction not in ("0", "1"):
+        if self.entry in ("pdus", "cm") and self.direction not in ("0", "1"):
             return 3
         return 0
 

@@ -22,14 +22,11 @@ returns-4 : tie.Need-returns-4
 returns-4 c = c .before .same4 .ensures .0 (c .if4 .taken)
 
 returns-5 : tie.Need-returns-5
-returns-5 c = c .before .same5 .ensures .0 (c .if5 .taken)
-
-returns-6 : tie.Need-returns-6
-returns-6 c = (λ e. differ (c .before .before .before .before .before .before .before .before .before .before .before .before .before .same .ensures .1 e) (c .before .before .before .before .before .before .before .before .before .before .before .before .if1 .left), λ e. differ (c .before .before .before .before .before .before .before .before .before .before .same2 .ensures .1 e) (c .before .before .before .before .before .before .before .before .before .if2 .left), λ e. differ (c .before .before .before .before .before .before .before .same3 .ensures .1 e) (c .before .before .before .before .before .before .if3 .left), λ e. differ (c .before .before .before .before .same4 .ensures .1 e) (c .before .before .before .if4 .left), λ e. differ (c .before .same5 .ensures .1 e) (c .if5 .left))
+returns-5 c = (λ e. differ (c .before .before .before .before .before .before .before .before .before .before .same .ensures .1 e) (c .before .before .before .before .before .before .before .before .before .if1 .left), λ e. differ (c .before .before .before .before .before .before .before .same2 .ensures .1 e) (c .before .before .before .before .before .before .if2 .left), λ e. differ (c .before .before .before .before .same3 .ensures .1 e) (c .before .before .before .if3 .left), λ e. differ (c .before .same4 .ensures .1 e) (c .if4 .left))
 
 pub named-spec : {M : Type 1} → statement M
 named-spec =
     tie.close
     (tie.spec
-    (λ c. search needs) (λ c κs. search needs) (λ c. search needs) (λ c κs. search needs) (λ c. search needs) (λ c κs. search needs) (λ c. search needs) (λ c κs. search needs) (λ c. search needs) (λ c κs. search needs)
-    returns returns-2 returns-3 returns-4 returns-5 returns-6)
+    (λ c. search needs) (λ c κs. search needs) (λ c. search needs) (λ c κs. search needs) (λ c. search needs) (λ c κs. search needs) (λ c. search needs) (λ c κs. search needs)
+    returns returns-2 returns-3 returns-4 returns-5)

@@ -13,7 +13,7 @@ returns-2 c = rw (c .before .before .before .before .before .entry .given .1) (c
 
 returns-3 : tie.Need-returns-3
 unfolding entered
-returns-3 c = rw (c .before .before .before .before .before .entry2 .given .1) (c .before .before .read-cm .ensures)
+returns-3 c = rw (c .before .before .before .before .before .entry2 .given .1) (c .before .before .parse-cm .ensures)
 
 returns-4 : tie.Need-returns-4
 unfolding entered

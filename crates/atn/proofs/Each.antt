@@ -1,4 +1,4 @@
--- The demands of each of the five entries, by its name.
+-- The demands of each entry, by its name.
 use mathlib.Core.Path.{_≡_, refl}
 use mathlib.Core.Bool.{Bool, true, false, _&&_}
 use mathlib.Core.List.{List, [], _∷_, _++_}
@@ -6,8 +6,8 @@ use Prim.Native.Nat.{ℕ, _*_, _≤_, _<_}
 use lib.ListN.{length, drop, take}
 use Rattle.atn.specs.Format.{Fmt}
 use Rattle.atn.specs.Reading.{Rec}
-use Rattle.atn.specs.Messages.{aircraftPdus, groundPdus, cmGround, cmAircraft, acse}
-use Rattle.atn.specs.Entries.{Reply, accept, readFrame, orElse, Answer, accepted, refused, Outcome, flat, need, Test, enter, frame-fits, pdus, pdus-tests, apdu-tests, parse-pdus, parse-apdu, parse-cm-ground, parse-cm-logon, parse-acse-apdu}
+use Rattle.atn.specs.Messages.{aircraftPdus, groundPdus, acse}
+use Rattle.atn.specs.Entries.{Reply, accept, readFrame, orElse, Answer, accepted, refused, Outcome, flat, need, Test, enter, frame-fits, pdus, pdus-tests, apdu-tests, parse-pdus, parse-apdu, cmOf, cm-tests, parse-cm, parse-acse-apdu}
 use Rattle.atn.proofs.Readings.{Keeps, format-keeps, both-keep}
 use Rattle.atn.proofs.Outcomes.{passes, early, NoRoom}
 use Rattle.atn.proofs.Demands.{Message, Shares, CutOrOut, Enough, whole-again, bad-again, cut-to, words-kept, words-left, room-refused, refused-room, reach-inside, refused-inside, clean-sound, clean-complete}
@@ -47,7 +47,7 @@ owes ts F k e =
 reads-clean : (ts : List Test) (f : Fmt) → ReadsClean ts f (λ s w. enter ts (λ t. readFrame f t) s w)
 reads-clean ts f = record { sound = λ s w h. clean-sound ts f s w h; complete = λ s w p R h g m l. clean-complete ts f s w p R h g m l }
 
----------------------------------------------------------------- the five
+---------------------------------------------------------------- the entries
 
 pub parse-pdus-owes : (d : ℕ) (down up : List ℕ) → Owes (pdus-tests d down up) (λ s. readFrame (pdus d down up) s) (λ s w. parse-pdus s d down up w)
 unfolding parse-pdus early
@@ -58,13 +58,9 @@ unfolding parse-apdu early
 parse-apdu-owes down up =
     owes (apdu-tests down up) (λ s. orElse (readFrame (aircraftPdus down) s) (readFrame (groundPdus down up) s)) (both-keep (λ s. readFrame (aircraftPdus down) s) (λ s. readFrame (groundPdus down up) s) (format-keeps (aircraftPdus down)) (format-keeps (groundPdus down up))) refl
 
-pub parse-cm-ground-owes : Owes [] (λ s. readFrame cmGround s) (λ s w. parse-cm-ground s w)
-unfolding parse-cm-ground early
-parse-cm-ground-owes = owes [] (λ s. readFrame cmGround s) (format-keeps cmGround) refl
-
-pub parse-cm-logon-owes : Owes [] (λ s. readFrame cmAircraft s) (λ s w. parse-cm-logon s w)
-unfolding parse-cm-logon early
-parse-cm-logon-owes = owes [] (λ s. readFrame cmAircraft s) (format-keeps cmAircraft) refl
+pub parse-cm-owes : (d : ℕ) → Owes (cm-tests d) (λ s. readFrame (cmOf d) s) (λ s w. parse-cm s d w)
+unfolding parse-cm early
+parse-cm-owes d = owes (cm-tests d) (λ s. readFrame (cmOf d) s) (format-keeps (cmOf d)) refl
 
 pub parse-acse-apdu-owes : Owes [] (λ s. readFrame acse s) (λ s w. parse-acse-apdu s w)
 unfolding parse-acse-apdu early
@@ -74,13 +70,9 @@ pub parse-pdus-clean : (d : ℕ) (down up : List ℕ) → ReadsClean (pdus-tests
 unfolding parse-pdus
 parse-pdus-clean d down up = reads-clean (pdus-tests d down up) (pdus d down up)
 
-pub parse-cm-ground-clean : ReadsClean [] cmGround (λ s w. parse-cm-ground s w)
-unfolding parse-cm-ground
-parse-cm-ground-clean = reads-clean [] cmGround
-
-pub parse-cm-logon-clean : ReadsClean [] cmAircraft (λ s w. parse-cm-logon s w)
-unfolding parse-cm-logon
-parse-cm-logon-clean = reads-clean [] cmAircraft
+pub parse-cm-clean : (d : ℕ) → ReadsClean (cm-tests d) (cmOf d) (λ s w. parse-cm s d w)
+unfolding parse-cm
+parse-cm-clean d = reads-clean (cm-tests d) (cmOf d)
 
 pub parse-acse-apdu-clean : ReadsClean [] acse (λ s w. parse-acse-apdu s w)
 unfolding parse-acse-apdu
