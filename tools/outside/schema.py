@@ -1,7 +1,7 @@
 """Document 01's schema for clean, written for the third-party tool. The two tables are the cases' lent ones."""
 
 from told import tags as t
-from types_of_asn1 import (Absent, Bits, Choice, Digits, ExtensibleNumber, Inner, Listed, Many, Name, Null, Number, Sequence, Text)
+from types_of_asn1 import (Absent, Bits, Choice, ExtensibleNumber, Inner, Listed, Many, Name, Null, Number, Numeric, Sequence, Text)
 
 YES, MAYBE = True, False
 NOT_READ = Absent()
@@ -52,7 +52,7 @@ def numbers(index, number, *limits):
 
 DEGREES = numbers(t.DEGREES, t.DEGREES_NUMBER, (1, 360), (1, 360))
 FREQUENCY = numbers(t.FREQUENCY, t.FREQUENCY_NUMBER, (2850, 28000), (23600, 27398), (9000, 15999))
-FREQUENCY = Choice(t.FREQUENCY, *FREQUENCY.alternatives, Digits(t.SATELLITE_CHANNEL, 12, 12))
+FREQUENCY = Choice(t.FREQUENCY, *FREQUENCY.alternatives, Numeric(t.SATELLITE_CHANNEL, t.SATELLITE_CHANNEL_X691, 12, 12))
 SPEED_TYPE = Name(t.SPEED_TYPE, 9, extensible=True)
 
 # By the byte of a lent table.

@@ -137,8 +137,17 @@ class Text:
         told.text(self.tag, value)
 
 
-class Digits(Text):
-    base, alphabet, letters = "NumericString", ' ^ FROM ("0".."9")', b"0123456789"
+class Numeric(Text):
+    """A text that is told twice: as the source has it, whose first character is the digit 0, and as it is."""
+    base, letters = "NumericString", b" 0123456789"
+
+    def __init__(self, tag, by_x691, low, high):
+        super().__init__(tag, low, high)
+        self.by_x691 = by_x691
+
+    def tell(self, value, told):
+        told.text(self.tag, bytes(ord("0") + self.letters.index(character) for character in value))
+        told.text(self.by_x691, value)
 
 
 class Bits:

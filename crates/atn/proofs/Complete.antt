@@ -17,8 +17,8 @@ use Rattle.x691.specs.Encoding.{width, lengthBits, sizeBits, unitBits, joined, 
 use Rattle.x691.specs.Range.{member, InRange, AllInRange, PickInRange}
 use Rattle.x691.proofs.BitLaws.{spells-fst, spells-snd, length-bitsOf}
 use Rattle.atn.specs.Format.{Fmt, num, listed, name, text, span, anySpan, skipped, small, null, noted, placed, marked, refuse, element, ext, seq, loose, choice, many, inner, soft, lax}
-use Rattle.atn.specs.Format.{Flds, end, _⨾_, _⨾?_, orNote, unread, Alts, none-left, _∥_, typeOf, membersOf, alternativesOf}
-use Rattle.atn.specs.Reading.{Rec, rec, Ctx, Ans, ok, past, stop, glue, then, times, fork, guard, or, unless, over, word, pack, coded, spanned, fetch, pull, letters, units, flags, unreadMark, unreadMarks, close, softly, laxly, read, readFields, readChoice}
+use Rattle.atn.specs.Format.{Flds, end, _⨾_, _⨾?_, orNote, unread, Alts, none-left, _∥_, typeOf, membersOf, alternativesOf, Letters}
+use Rattle.atn.specs.Reading.{Rec, rec, Ctx, Ans, ok, past, stop, glue, then, times, fork, guard, or, unless, over, word, lettered, spanned, fetch, pull, letters, units, flags, unreadMark, unreadMarks, close, softly, laxly, read, readFields, readChoice}
 use Rattle.atn.specs.Told.{tellAny, tellAll, tell, tellFields, tellPick}
 use Rattle.x691.proofs.Widths.{width-holds, width-pow, index-highest}
 use Rattle.atn.proofs.Steps.{then-nil, then-go, over-in, fetch-go, pull-go, pull-spelt, pull-bit, length-size, sized-go, length-units, letters-go, units-back, length-go, times-go, any-go}
@@ -61,7 +61,7 @@ module _ (b : ℕ → ℕ) where
   number-go : (w v : ℕ) (k : ℕ → Ans) (e at : ℕ) → v < 2 ^ w → Spells b at (bitsOf w v) → at + length (bitsOf w v) ≤ e → pull b e at w k ≡ k v
   number-go w v k e at l s h = pull-spelt b e at w v k l s (omega (arith, length-bitsOf w v))
 
-  text-go : (t n c lo hi : ℕ) → Completes (text t n c lo hi)
+  text-go : (t n : ℕ) (c : Letters) (lo hi : ℕ) → Completes (text t n c lo hi)
   unfolding read encode tell
   text-go t n c lo hi cs x e at g s h =
       let w : ℕ = width (n - 1) in
@@ -73,7 +73,7 @@ module _ (b : ℕ → ℕ) where
       let u : Spells b q (unitBits n cs) = rw i at (spells-snd b at z (unitBits n cs) s) in
       sized-go b e at lo hi (length cs) _ (g .0) (g .1) (spells-fst b at z (unitBits n cs) s) (omega arith)
       ∙ letters-go b e n cs q _ (g .2) u (omega arith)
-      ∙ rw (units-back b n cs q (g .2) u) (ap (λ (p : ℕ). ok p (pack t (x .0) (coded c cs)) 0) (omega arith))
+      ∙ rw (units-back b n cs q (g .2) u) (ap (λ (p : ℕ). ok p (lettered t c (x .0) cs) 0) (omega arith))
 
   -- w bits a unit
   length-string : (e w : ℕ) (cs : List ℕ) → length (unitBits (2 ^ w) cs) ≡ length cs * w

@@ -12,7 +12,7 @@ use Rattle.x691.specs.Encoding.{width, highest}
 use Rattle.x691.proofs.BitLaws.{uint-agree}
 use Rattle.atn.specs.Format.{Fmt, num, listed, name, text, span, anySpan, skipped, small, null, noted, placed, marked, refuse, element, ext, seq, loose, choice, many, inner, soft, lax}
 use Rattle.atn.specs.Format.{Flds, end, _⨾_, _⨾?_, orNote, unread, Alts, none-left, _∥_, out}
-use Rattle.atn.specs.Reading.{Rec, Ctx, Ans, ok, stop, glue, late, then, times, fork, guard, unless, over, fetch, pull, sized, letters, units, pack, coded, short, long, fragment, lengths, lengthThen, flags, unreadMarks, within, close, softly, laxly, read, readFields, readChoice}
+use Rattle.atn.specs.Reading.{Rec, Ctx, Ans, ok, stop, glue, late, then, times, fork, guard, unless, over, fetch, pull, sized, letters, units, lettered, short, long, fragment, lengths, lengthThen, flags, unreadMarks, within, close, softly, laxly, read, readFields, readChoice}
 use Rattle.atn.proofs.Steps.{fetch-go, fetch-no}
 use Rattle.atn.proofs.Reach.{split}
 
@@ -98,7 +98,7 @@ module _ (b c : ℕ → ℕ) where
     same (num t lo hi) x e at h = pull-same e h at _ λ v _. refl
     same (listed t hi xs) x e at h = pull-same e h at _ λ v _. refl
     same (name t hi) x e at h = pull-same e h at _ λ v _. refl
-    same (text t n y lo hi) x e at h = let w : ℕ = width (n - 1) in sized-same e h at lo hi λ k q l. letters-same e h w n k q _ _ (λ u. ap (λ (cs : List ℕ). ok (q + k * w) (pack t (x .0) (coded y cs)) 0) (same-units w q k (agree-le h u))) l
+    same (text t n y lo hi) x e at h = let w : ℕ = width (n - 1) in sized-same e h at lo hi λ k q l. letters-same e h w n k q _ _ (λ u. ap (λ (cs : List ℕ). ok (q + k * w) (lettered t y (x .0) cs) 0) (same-units w q k (agree-le h u))) l
     same (span t w lo hi) x e at h = sized-same e h at lo hi λ k q _. pull-same e h q (k * w) λ _ _. refl
     same (anySpan t w) x e at h = length-same e h 8193 at λ k q. pull-same e h q (k * w) λ _ _. refl
     same (skipped m) x e at h = then-same refl (λ p. length-same e h 8193 p λ k q. pull-same e h q (k * 8) λ _ _. refl)

@@ -12,7 +12,7 @@ use Rattle.x691.specs.Encoding.{width}
 use Rattle.x691.proofs.BitLaws.{uint-agree}
 use Rattle.atn.specs.Format.{Fmt, num, listed, name, text, span, anySpan, skipped, small, null, noted, placed, marked, refuse, element, ext, seq, loose, choice, many, inner, soft, lax}
 use Rattle.atn.specs.Format.{Flds, end, _⨾_, _⨾?_, orNote, unread, Alts, none-left, _∥_, Why, out, bad, lack, quit}
-use Rattle.atn.specs.Reading.{Rec, Ctx, Ans, ok, past, stop, glue, tardy, late, then, times, fork, guard, or, unless, over, fetch, pull, sized, letters, units, pack, coded, short, long, fragment, lengths, lengthThen, flags, unreadMarks, within, close, shut, softly, passOver, laxly, giveUp, read, readFields, readChoice}
+use Rattle.atn.specs.Reading.{Rec, Ctx, Ans, ok, past, stop, glue, tardy, late, then, times, fork, guard, or, unless, over, fetch, pull, sized, letters, units, lettered, short, long, fragment, lengths, lengthThen, flags, unreadMarks, within, close, shut, softly, passOver, laxly, giveUp, read, readFields, readChoice}
 use Rattle.atn.proofs.Steps.{fetch-go, fetch-no}
 use Rattle.atn.proofs.Reach.{split}
 use Rattle.atn.proofs.Inverse.{both}
@@ -224,7 +224,7 @@ mutual
   shift b c a L h (text t n y lo hi) x e at z l =
       let w : ℕ = width (n - 1) in
       sized-moved b c a L h e l at lo hi _ _ λ k q i.
-      letters-moved b c a L h e l w n k q _ _ (λ u. ap (λ (cs : List ℕ). ok (a + (q + k * w)) (pack t (x .0) (coded y cs)) 0) (sym (units-moved b c a L h w q k (omega arith)))) i
+      letters-moved b c a L h e l w n k q _ _ (λ u. ap (λ (cs : List ℕ). ok (a + (q + k * w)) (lettered t y (x .0) cs) 0) (sym (units-moved b c a L h w q k (omega arith)))) i
   shift b c a L h (span t w lo hi) x e at z l = never z
   shift b c a L h (anySpan t w) x e at z l = never z
   shift b c a L h (skipped m) x e at z l = ok-moved a at [] _ _ _ refl (λ p. length-moved b c a L h e l 8193 p _ _ λ k q. pull-moved b c a L h e l q (k * 8) _ _ λ _ _. rw (add-assoc a q (k * 8)))

@@ -17,7 +17,7 @@ use Rattle.x691.specs.Encoding.{width, lengthBits, sizeBits, unitBits, joined, 
 use Rattle.x691.specs.Range.{member, All, InRange, AllInRange, PickInRange}
 use Rattle.x691.proofs.BitLaws.{uint-one, uint-lt, uint-spells, spells-join, length-bitsOf}
 use Rattle.atn.specs.Format.{Fmt, num, listed, name, text, span, anySpan, skipped, small, null, noted, placed, marked, refuse, element, ext, seq, loose, choice, many, inner, soft, lax}
-use Rattle.atn.specs.Format.{Flds, end, _⨾_, _⨾?_, orNote, unread, Alts, none-left, _∥_, typeOf, membersOf, alternativesOf}
+use Rattle.atn.specs.Format.{Flds, end, _⨾_, _⨾?_, orNote, unread, Alts, none-left, _∥_, typeOf, membersOf, alternativesOf, Letters}
 use Rattle.atn.specs.Reading.{Rec, rec, Ctx, Ans, ok, past, stop, then, times, unless, over, spanned, letters, units, flags, unreadMarks, read, readFields, readChoice}
 use Rattle.atn.specs.Told.{tellAny, tellAll, tell, tellFields, tellPick}
 use Rattle.x691.proofs.Widths.{width-pow}
@@ -236,7 +236,7 @@ module _ (b : ℕ → ℕ) (bit : (i : ℕ) → b i < 2) where
   abbrev pub Sound : Fmt → Type 0
   Sound f = (x : Ctx) (e at p : ℕ) (R : List Rec) → read f x b e at ≡ ok p R 0 → at ≤ e → FoundF f x e at p R
 
-  sound-text : (t n c lo hi : ℕ) → Sound (text t n c lo hi)
+  sound-text : (t n : ℕ) (c : Letters) (lo hi : ℕ) → Sound (text t n c lo hi)
   unfolding read encode tell
   sound-text t n c lo hi x e at p R h l =
       let w : ℕ = width (n - 1) in

@@ -11,7 +11,7 @@ use Rattle.x691.specs.Types.{extent}
 use Rattle.x691.specs.Encoding.{width, highest}
 use Rattle.atn.specs.Format.{Fmt, num, listed, name, text, span, anySpan, skipped, small, null, noted, placed, marked, refuse, element, ext, seq, loose, choice, many, inner, soft, lax}
 use Rattle.atn.specs.Format.{Flds, end, _⨾_, _⨾?_, orNote, unread, Alts, none-left, _∥_, alternativesOf, out}
-use Rattle.atn.specs.Reading.{Rec, rec, word, Ctx, Ans, ok, past, stop, glue, then, times, fork, guard, unless, fetch, pull, sized, letters, units, pack, coded, short, long, fragment, lengths, lengthThen, flags, unreadMarks, close, softly, laxly, read, readFields, readChoice}
+use Rattle.atn.specs.Reading.{Rec, rec, word, Ctx, Ans, ok, past, stop, glue, then, times, fork, guard, unless, fetch, pull, sized, letters, units, lettered, short, long, fragment, lengths, lengthThen, flags, unreadMarks, close, softly, laxly, read, readFields, readChoice}
 use Rattle.atn.proofs.Steps.{fetch-go, fetch-no}
 use Rattle.atn.proofs.Reach.{reach, opens, isOpen, split, glue-is, late-is, soft-is, lax-is, close-is, mono-pull, mono-then, mono-times, mono-fork, mono-guard, Rises, mono-sized, mono-letters, mono-short, mono-long, mono-fragment, mono-lengths, mono-length, mono, monoFields, monoChoice}
 use Rattle.atn.proofs.SameBits.{Agree, agree-le, same-bits, same-units, same-unread, same}
@@ -189,7 +189,7 @@ module _ (b c : ℕ → ℕ) where
     rel (text t n y lo hi) x e u at h =
         let w : ℕ = width (n - 1) in
         rel-sized b c e u at lo hi _ _ (λ k q. mono-letters b e w n k q _ λ p. omega arith) λ k q l a.
-        rel-letters b c e u w n k q _ _ (λ p. omega arith) (λ z a′. rel-eq b c e u (ap (λ (cs : List ℕ). ok (q + k * w) (pack t (x .0) (coded y cs)) 0) (sym (same-units b c w q k a′))) z) l a
+        rel-letters b c e u w n k q _ _ (λ p. omega arith) (λ z a′. rel-eq b c e u (ap (λ (cs : List ℕ). ok (q + k * w) (lettered t y (x .0) cs) 0) (sym (same-units b c w q k a′))) z) l a
     rel (span t w lo hi) x e u at h = rel-sized b c e u at lo hi _ _ (λ k q. mono-pull b e q (k * w) _ λ _. omega arith) λ k q l a. rel-span b c e u q (k * w) _
     rel (anySpan t w) x e u at h = rel-length b c e u at _ _ (λ k q. mono-pull b e q (k * w) _ λ _. omega arith) (λ k q l. rel-span b c e u q (k * w) _) h
     rel (skipped m) x e u at h =

@@ -11,7 +11,7 @@ use Rattle.x691.specs.Encoding.{widthIn, width, count, highest}
 use Rattle.x691.specs.Range.{member}
 use Rattle.atn.specs.Format.{Fmt, num, small, out, lack}
 use Rattle.atn.specs.Format as format
-use Rattle.atn.specs.Reading.{Rec, rec, Ans, ok, stop, mark, or, unless, over, word, octets, packs, pack, coded, spanned, glue, tardy, late, then, times, fork, guard, fetch, pull, sized, letters, units, short, long, fragment, lengths, lengthThen, flags, unreadMark, unreadMarks, within, shut, close, kept, passOver, softly, giveUp, laxly, read, readFields, readChoice}
+use Rattle.atn.specs.Reading.{Rec, rec, Ans, ok, stop, mark, or, unless, over, word, octets, packs, pack, coded, spaced, noneAbove, spanned, glue, tardy, late, then, times, fork, guard, fetch, pull, sized, letters, units, short, long, fragment, lengths, lengthThen, flags, unreadMark, unreadMarks, within, shut, close, kept, passOver, softly, giveUp, laxly, read, readFields, readChoice}
 use Rattle.atn.specs.Messages.{argumentOf, elements, dateTimeGroup, levelType, messageData}
 use Rattle.atn.specs.Entries.{Reply, accept, ranOut, badly, unsupplied, stopped, reply, readFrame, afterOut, afterBad, orElse, flat, need, settle, decide, enter, frame-fits, table-fits, direction-fits, pdus, cmOf, parse-pdus, parse-apdu, parse-cm, parse-acse-apdu}
 use Rattle.atn.specs.Worked.{Entry, downlink, uplink, apdu, cm-ground, cm-logon, acse-apdu, Question, range, field, count-of, length-of, small-octets, frame, told, records-of, without-words, zeros, Written, bits, records, is, bad, whole, cut, refuses, other, Row, _gives_, written, worked, raw-bytes, raw-place, small-bytes, down, up, lent, enters, only, valuesIn, of-answer, told-in, counted}
@@ -56,7 +56,7 @@ alone n e p = ok p (rec 0 0 n 0 ∷ []) 0
 
 -- a format reads a string of bits
 readBits : Fmt → List ℕ → Reply
-unfolding reply stopped read then late glue tardy times fork guard fetch pull sized letters units short long fragment lengths lengthThen flags unreadMark unreadMarks within close shut softly kept passOver laxly giveUp mark or unless over word octets packs pack coded spanned uint member width widthIn extent highest count argumentOf elements
+unfolding reply stopped read then late glue tardy times fork guard fetch pull sized letters units short long fragment lengths lengthThen flags unreadMark unreadMarks within close shut softly kept passOver laxly giveUp mark or unless over word octets packs pack coded spaced noneAbove spanned uint member width widthIn extent highest count argumentOf elements
 readBits f l = reply (read f (0, 0) (λ i. getD l i 0) (length l) 0)
 
 unfoldable pub given : Question → Written

@@ -13,6 +13,13 @@ pub data Why : Type 0 where
   -- whether the window's end was the cause, whether the bits left count for mark 6, the mark of the part
   quit : Bool → Bool → ℕ → Why
 
+-- by which characters the units of an alphabet are told
+pub data Letters : Type 0 where
+  -- one text: the code of the first unit, from which the others count
+  first : ℕ → Letters
+  -- a NumericString: the source's text, whose first unit is the digit 0, and behind it X.680's, whose first unit is the space, with this tag
+  numeric : ℕ → Letters
+
 infixr 40 _⨾_
 infixr 40 _⨾?_
 infixr 40 _∥_
@@ -24,8 +31,8 @@ mutual
     listed : ℕ → ℕ → List ℕ → Fmt
     -- a name by its place: tag, highest place; above it is badly formed, and mark 1
     name : ℕ → ℕ → Fmt
-    -- a text: tag, size of the alphabet, code of its first character, fewest and most characters
-    text : ℕ → ℕ → ℕ → ℕ → ℕ → Fmt
+    -- a text: tag, size of the alphabet, its characters, fewest and most of them
+    text : ℕ → ℕ → Letters → ℕ → ℕ → Fmt
     -- a string that is told by its span: tag, bits of a unit, fewest and most units
     span : ℕ → ℕ → ℕ → ℕ → Fmt
     -- the same with a length determinant; where it is empty it is not told

@@ -4,19 +4,20 @@ use mathlib.Core.List.{List, [], _∷_}
 use Prim.Native.Nat.{ℕ}
 use lib.ListN.{getD}
 use Rattle.atn.specs.Format.{Fmt, num, listed, name, text, span, anySpan, skipped, small, null, noted, placed, marked, refuse, element, ext, seq, loose, choice, many, inner, soft, lax}
-use Rattle.atn.specs.Format.{Flds, end, _⨾_, _⨾?_, orNote, unread, Alts, none-left, _∥_, bad, lack}
+use Rattle.atn.specs.Format.{Flds, end, _⨾_, _⨾?_, orNote, unread, Alts, none-left, _∥_, first, numeric, bad, lack}
 use Rattle.atn.specs.Reading.{mark}
 use Rattle.atn.specs.Schema.{minus}
 use Rattle.atn.specs.Tags as tag
 
 ---------------------------------------------------------------- shapes
 
--- a text of IA5 characters, and the digits of a satellite channel: raw 0 is the digit 0
+-- a text of IA5 characters
 abbrev pub ia5 : ℕ → ℕ → ℕ → Fmt
-ia5 t lo hi = text t 128 0 lo hi
+ia5 t lo hi = text t 128 (first 0) lo hi
 
-abbrev pub digits : ℕ → ℕ → ℕ → Fmt
-digits t lo hi = text t 10 48 lo hi
+-- a NumericString: tags of the source's text and of X.680's
+abbrev pub numericString : ℕ → ℕ → ℕ → ℕ → Fmt
+numericString t u lo hi = text t 11 (numeric u) lo hi
 
 -- "(extended)": value 0 and second number 1
 abbrev pub extended : ℕ → Fmt
@@ -105,7 +106,7 @@ abbrev pub levelType : Fmt
 levelType = choice tag.level (num tag.level-number (minus 60) 7000 ∥ num tag.level-number (minus 30) 25000 ∥ num tag.level-number 30 700 ∥ num tag.level-number 100 2500 ∥ none-left)
 
 abbrev pub frequency : Fmt
-frequency = choice tag.frequency (num tag.frequency-number 2850 28000 ∥ num tag.frequency-number 23600 27398 ∥ num tag.frequency-number 9000 15999 ∥ digits tag.satellite-channel 12 12 ∥ none-left)
+frequency = choice tag.frequency (num tag.frequency-number 2850 28000 ∥ num tag.frequency-number 23600 27398 ∥ num tag.frequency-number 9000 15999 ∥ numericString tag.satellite-channel tag.satellite-channel-x691 12 12 ∥ none-left)
 
 abbrev pub code : Fmt
 code = many 4 4 (num tag.code-digit 0 7)

@@ -10,7 +10,7 @@ use Rattle.x691.specs.Types.{extent}
 use Rattle.x691.specs.Encoding.{width, highest}
 use Rattle.x691.specs.Range.{member}
 use Rattle.atn.specs.Format.{Fmt, num, listed, name, text, span, anySpan, skipped, small, null, noted, placed, marked, refuse, element, ext, seq, loose, choice, many, inner, soft, lax}
-use Rattle.atn.specs.Format.{Flds, end, _⨾_, _⨾?_, orNote, unread, Alts, none-left, _∥_, alternativesOf, Why, out, bad, lack, quit}
+use Rattle.atn.specs.Format.{Flds, end, _⨾_, _⨾?_, orNote, unread, Alts, none-left, _∥_, alternativesOf, Letters, first, numeric, Why, out, bad, lack, quit}
 
 ---------------------------------------------------------------- records and marks
 
@@ -60,6 +60,21 @@ pack t m cs = packs t m (length cs) ((length cs + 7) / 8) cs
 unfoldable pub coded : ℕ → List ℕ → List ℕ
 coded c [] = []
 coded c (u ∷ us) = (c + u) ∷ coded c us
+
+-- the characters of a NumericString: the space, then the digits (X.680 37.2, X.691 27.5.4)
+unfoldable pub spaced : List ℕ → List ℕ
+spaced [] = []
+spaced (u ∷ us) = cond (eqb u 0) 32 (47 + u) ∷ spaced us
+
+-- "if no raw is above 10"
+unfoldable pub noneAbove : ℕ → List ℕ → Bool
+noneAbove n [] = true
+noneAbove n (u ∷ us) = leb u n && noneAbove n us
+
+-- the records of a text by its units
+abbrev pub lettered : ℕ → Letters → ℕ → List ℕ → List Rec
+lettered t (first c) m us = pack t m (coded c us)
+lettered t (numeric v) m us = pack t m (coded 48 us) ++ cond (noneAbove 10 us) (pack v m (spaced us)) []
 
 -- a span that is not empty: its first bit in the frame, and the number of its bits
 unfoldable pub spanned : ℕ → ℕ → ℕ → ℕ → List Rec
@@ -235,7 +250,7 @@ unfoldable mutual
       pull b e at w λ v. guard (leb v (extent 0 hi)) (at + w) (mark 1) (ok (at + w) (rec t (x .0) v 0 ∷ []) 0)
   read (text t n c lo hi) x b e at =
       let w : ℕ = width (n - 1) in
-      sized b e at lo hi λ k q. letters b e w n k q λ p. ok p (pack t (x .0) (coded c (units b w q k))) 0
+      sized b e at lo hi λ k q. letters b e w n k q λ p. ok p (lettered t c (x .0) (units b w q k)) 0
   read (span t w lo hi) x b e at = sized b e at lo hi λ k q. pull b e q (k * w) λ _. ok (q + k * w) (spanned t (x .0) q (k * w)) 0
   read (anySpan t w) x b e at = lengthThen b e at λ k q. pull b e q (k * w) λ _. ok (q + k * w) (spanned t (x .0) q (k * w)) 0
   read (skipped m) x b e at = then (ok at [] (mark m)) λ p. lengthThen b e p λ k q. pull b e q (k * 8) λ _. ok (q + k * 8) [] 0

@@ -10,9 +10,9 @@ use Rattle.x691.specs.Types.{END, _&_, _&?_, Alternatives, NONE, _∣_}
 abbrev pub IA5String : ℕ → ℕ → Asn
 IA5String lo hi = STRING 128 lo hi
 
--- NumericString (FROM ("0".."9"))
-abbrev pub Digits : ℕ → ℕ → Asn
-Digits lo hi = STRING 10 lo hi
+-- the space and the digits, eleven characters (X.680 37.2)
+abbrev pub NumericString : ℕ → ℕ → Asn
+NumericString lo hi = STRING 11 lo hi
 
 abbrev pub BitString : ℕ → ℕ → Asn
 BitString lo hi = STRING 2 lo hi
@@ -77,7 +77,7 @@ abbrev pub LevelType : Asn
 LevelType = CHOICE (INTEGER (minus 60) 7000 ∣ INTEGER (minus 30) 25000 ∣ INTEGER 30 700 ∣ INTEGER 100 2500 ∣ NONE)
 
 abbrev pub Frequency : Asn
-Frequency = CHOICE (INTEGER 2850 28000 ∣ INTEGER 23600 27398 ∣ INTEGER 9000 15999 ∣ Digits 12 12 ∣ NONE)
+Frequency = CHOICE (INTEGER 2850 28000 ∣ INTEGER 23600 27398 ∣ INTEGER 9000 15999 ∣ NumericString 12 12 ∣ NONE)
 
 -- four octal digits
 abbrev pub Code : Asn

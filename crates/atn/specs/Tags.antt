@@ -193,6 +193,9 @@ flight-information = 71
 abbrev pub further-instructions : ℕ
 further-instructions = 72
 
+abbrev pub satellite-channel-x691 : ℕ
+satellite-channel-x691 = 73
+
 abbrev pub clearance : ℕ
 clearance = 80
 

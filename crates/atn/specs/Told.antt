@@ -8,7 +8,7 @@ use Rattle.x691.specs.Types.{Value, Values, Pick, extent}
 use Rattle.x691.specs.Encoding.{width, highest, lengthBits, sizeBits, encode, encodeMembers, encodePick, index, ifAny}
 use Rattle.atn.specs.Format.{Fmt, num, listed, name, text, span, anySpan, skipped, small, null, noted, placed, marked, refuse, element, ext, seq, loose, choice, many, inner, soft, lax}
 use Rattle.atn.specs.Format.{Flds, end, _⨾_, _⨾?_, orNote, unread, Alts, none-left, _∥_, typeOf, membersOf, alternativesOf}
-use Rattle.atn.specs.Reading.{Rec, rec, Ctx, word, pack, coded, spanned, flags}
+use Rattle.atn.specs.Reading.{Rec, rec, Ctx, word, lettered, spanned, flags}
 
 module _ {A : Type 0} where
   unfoldable pub tellAny : (A → List Rec) → List Rec → Option A → List Rec
@@ -24,7 +24,7 @@ unfoldable mutual
   tell (num t lo hi) v x at = rec t (x .0) (word (lo + v)) 0 ∷ []
   tell (listed t hi xs) v x at = rec t (x .0) v 0 ∷ []
   tell (name t hi) v x at = rec t (x .0) v 0 ∷ []
-  tell (text t n c lo hi) cs x at = pack t (x .0) (coded c cs)
+  tell (text t n c lo hi) cs x at = lettered t c (x .0) cs
   tell (span t w lo hi) cs x at = spanned t (x .0) (at + width (hi - lo)) (length cs * w)
   tell (anySpan t w) cs x at = spanned t (x .0) (at + length (lengthBits (length cs))) (length cs * w)
   tell (skipped m) v x at = absurd v

@@ -13,8 +13,8 @@ use Rattle.x691.specs.Types.{extent}
 use Rattle.x691.specs.Encoding.{width, widthIn}
 use Rattle.per.proofs.Laws.{uint-below, uint-below-wide}
 use Rattle.per.proofs.Widths.{width-le}
-use Rattle.atn.specs.Format.{text, out}
-use Rattle.atn.specs.Reading.{Rec, Ctx, Ans, ok, past, stop, glue, late, then, or, mark, unless, over, sized, letters, units, coded, pack, read}
+use Rattle.atn.specs.Format.{text, numeric, out}
+use Rattle.atn.specs.Reading.{Rec, Ctx, Ans, ok, past, stop, glue, late, then, or, mark, unless, over, sized, letters, units, coded, lettered, pack, read}
 use Rattle.atn.proofs.Marks.{or-assoc, or-nil}
 use Rattle.atn.proofs.Steps.{pull-go, pull-no, then-nil}
 use Rattle.cursor.specs.declared.place.Cursor.{Cursor}
@@ -260,12 +260,12 @@ module _ (b : ℕ → ℕ) (e w n : ℕ) where
           pull-no b e at w _ y ∙ ap (λ (a : Ans). then a (λ q. run j q k)) (sym (pull-no b e at w _ y))
 
 -- without room for all of them the digits do not go on
-digits-short : (b : ℕ → ℕ) (e i at : ℕ) (k : ℕ → Ans) → at ≤ e → e < at + i * 4 → good (letters b e 4 10 i at k) ≡ false
+digits-short : (b : ℕ → ℕ) (e i at : ℕ) (k : ℕ → Ans) → at ≤ e → e < at + i * 4 → good (letters b e 4 11 i at k) ≡ false
 unfolding letters then
 digits-short b e zero at k l h = absurd (omega arith)
 digits-short b e (suc i) at k l h = go (leb (at + 4) e) refl λ y. digits-short b e i (at + 4) k y (omega arith)
   where
-    go : (t : Bool) → leb (at + 4) e ≡ t → (at + 4 ≤ e → good (letters b e 4 10 i (at + 4) k) ≡ false) → good (letters b e 4 10 (suc i) at k) ≡ false
+    go : (t : Bool) → leb (at + 4) e ≡ t → (at + 4 ≤ e → good (letters b e 4 11 i (at + 4) k) ≡ false) → good (letters b e 4 11 (suc i) at k) ≡ false
     go true q r =
         let y : at + 4 ≤ e = leb-true (at + 4) e q in
         ap good (pull-go b e at 4 _ y) ∙ good-glue _ _ ∙ r y
@@ -276,25 +276,25 @@ module _ {s : List ℕ} {c : Cursor} where
   unfolding letters
   digits-none = record { digits = reads-ok [] 0 (marked-nil c) }
 
-  digit-of : {d : Cursor} (g : Got) → Pulls s c 4 g → d ≡ marked (g .c) (unless (ltb (g .v) 10) 1) → Digits 1 s c d
+  digit-of : {d : Cursor} (g : Got) → Pulls s c 4 g → d ≡ marked (g .c) (unless (ltb (g .v) 11) 1) → Digits 1 s c d
   unfolding letters
-  digit-of {d} g p q = record { digits = pull-then 4 g (λ v e z. then (ok z [] (unless (ltb v 10) 1)) λ y. ok y [] 0) p (reads-then _ _ (reads-ok [] _ q) (reads-ok [] 0 (marked-nil d))) }
+  digit-of {d} g p q = record { digits = pull-then 4 g (λ v e z. then (ok z [] (unless (ltb v 11) 1)) λ y. ok y [] 0) p (reads-then _ _ (reads-ok [] _ q) (reads-ok [] 0 (marked-nil d))) }
 
-  pub digit-in : (g : Got) → Pulls s c 4 g → g .v < 10 → Digits 1 s c (g .c)
+  pub digit-in : (g : Got) → Pulls s c 4 g → g .v < 11 → Digits 1 s c (g .c)
   unfolding unless
-  digit-in g p l = digit-of g p (marked-nil (g .c) ∙ rw (lt-ltb (g .v) 10 l))
+  digit-in g p l = digit-of g p (marked-nil (g .c) ∙ rw (lt-ltb (g .v) 11 l))
 
-  pub digit-over : {d : Cursor} (g : Got) → Pulls s c 4 g → 10 ≤ g .v → d ≡ marked (g .c) 1 → Digits 1 s c d
+  pub digit-over : {d : Cursor} (g : Got) → Pulls s c 4 g → 11 ≤ g .v → d ≡ marked (g .c) 1 → Digits 1 s c d
   unfolding unless mark
-  digit-over g p l q = digit-of g p (q ∙ rw (le-ltb (g .v) 10 l))
+  digit-over g p l q = digit-of g p (q ∙ rw (le-ltb (g .v) 11 l))
 
   pub digits-more : {i : ℕ} {d f : Cursor} → Digits i s c d → Digits 1 s d f → Digits (i + 1) s c f
-  digits-more {i} x y = record { digits = reads-same _ _ (sym (letters-join (bitOf s) (c .end) 4 10 i 1 (c .at) (λ q. ok q [] 0))) (reads-then _ _ (x .digits) (y .digits)) }
+  digits-more {i} x y = record { digits = reads-same _ _ (sym (letters-join (bitOf s) (c .end) 4 11 i 1 (c .at) (λ q. ok q [] 0))) (reads-then _ _ (x .digits) (y .digits)) }
 
   -- what is told of the digits
-  digits-told : {d : Cursor} → Digits 12 s c d → (T : ℕ → List Rec) → Reads (λ e p. letters (bitOf s) e 4 10 12 p (λ q. ok q (T p) 0)) s c d (T (c .at))
+  digits-told : {d : Cursor} → Digits 12 s c d → (T : ℕ → List Rec) → Reads (λ e p. letters (bitOf s) e 4 11 12 p (λ q. ok q (T p) 0)) s c d (T (c .at))
   unfolding letters
-  digits-told {d} x T = reads-same _ _ (sym (letters-join (bitOf s) (c .end) 4 10 12 0 (c .at) (λ q. ok q (T (c .at)) 0))) (reads-then _ _ (x .digits) (reads-ok (T (c .at)) 0 (marked-nil d)))
+  digits-told {d} x T = reads-same _ _ (sym (letters-join (bitOf s) (c .end) 4 11 12 0 (c .at) (λ q. ok q (T (c .at)) 0))) (reads-then _ _ (x .digits) (reads-ok (T (c .at)) 0 (marked-nil d)))
 
 -- a size that is always twelve has no bits
 size-twelve : (b : ℕ → ℕ) (e at : ℕ) (k : ℕ → ℕ → Ans) → at ≤ e → sized b e at 12 12 k ≡ k 12 at
@@ -302,18 +302,18 @@ unfolding sized width widthIn uint over unless
 size-twelve b e at k l = pull-go b e at 0 _ (omega arith) ∙ rw (add-zero at) (then-nil at (k 12))
 
 module _ {s : List ℕ} {c d : Cursor} (x : Digits 12 s c d) where
-  abbrev told : ℕ → ℕ → ℕ → List Rec
-  told t n p = pack t n (coded 48 (units (bitOf s) 4 p 12))
+  abbrev told : ℕ → ℕ → ℕ → ℕ → List Rec
+  told t u n p = lettered t (numeric u) n (units (bitOf s) 4 p 12)
 
-  channel-read : (t : ℕ) (y : Ctx) {R : List Rec} → Reads (λ e p. letters (bitOf s) e 4 10 12 p (λ q. ok q (told t (y .0) p) 0)) s c d R → Reads (λ e p. read (text t 10 48 12 12) y (bitOf s) e p) s c d R
+  channel-read : (t u : ℕ) (y : Ctx) {R : List Rec} → Reads (λ e p. letters (bitOf s) e 4 11 12 p (λ q. ok q (told t u (y .0) p) 0)) s c d R → Reads (λ e p. read (text t 11 (numeric u) 12 12) y (bitOf s) e p) s c d R
   unfolding read width widthIn
-  channel-read t y r = in-window λ i. reads-same _ _ (sym (size-twelve (bitOf s) (c .end) (c .at) _ (i .0))) r
+  channel-read t u y r = in-window λ i. reads-same _ _ (sym (size-twelve (bitOf s) (c .end) (c .at) _ (i .0))) r
 
   pub channel-all : {t : Bool} → Ahead s c 48 t → t ≡ true → c .end < 2 ^ 64 → Channel s c (record { text = record { at = c .at; len = 12 }; c = d })
   unfolding channelRecs
   channel-all a q f =
       record {
-        channel = λ t. record { took = λ y. channel-read t y (digits-told x (told t (y .0))) };
+        channel = λ t u. record { took = λ y. channel-read t u y (digits-told x (told t u (y .0))) };
         few = omega arith;
         held = record { there = omega (arith, a .room q, a .held q); fits = omega (arith, a .room q) };
       }
@@ -321,7 +321,7 @@ module _ {s : List ℕ} {c d : Cursor} (x : Digits 12 s c d) where
   pub channel-cut : {t : Bool} → Ahead s c 48 t → t ≡ false → Channel s c (record { text = record { at = 0; len = 0 }; c = d })
   channel-cut a q =
       record {
-        channel = λ t. record { took = λ y. channel-read t y (reads-cut _ (λ i z. digits-short (bitOf s) (c .end) 12 (c .at) _ (i .0) (a .short q i z)) (digits-told x (told t (y .0)))) };
+        channel = λ t u. record { took = λ y. channel-read t u y (reads-cut _ (λ i z. digits-short (bitOf s) (c .end) 12 (c .at) _ (i .0) (a .short q i z)) (digits-told x (told t u (y .0)))) };
         few = omega arith;
         held = in-frame-none;
       }

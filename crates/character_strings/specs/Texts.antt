@@ -5,8 +5,8 @@ use mathlib.Core.List.{List, []}
 use Prim.Native.Nat.{ℕ, _+_, _*_, _^_, _≤_, _<_}
 use lib.ListN.{length}
 use Rattle.x691.specs.Bits.{bitOf}
-use Rattle.atn.specs.Format.{text}
-use Rattle.atn.specs.Reading.{Rec, Ans, ok, pack, coded, units, letters, sized}
+use Rattle.atn.specs.Format.{text, first, numeric}
+use Rattle.atn.specs.Reading.{Rec, Ans, ok, pack, lettered, units, letters, sized}
 use Rattle.cursor.specs.declared.place.Cursor.{Cursor}
 use Rattle.cursor.specs.declared.place.Got.{Got}
 use Rattle.field_ranges.specs.declared.table.Range.{Range}
@@ -20,8 +20,8 @@ use Rattle.field_ranges.specs.Ends.{lowest, highest}
 unfoldable pub textRecs : ℕ → ℕ → List ℕ → Text → List Rec
 textRecs t n s x = pack t n (units (bitOf s) 7 (x .at) (x .len))
 
-unfoldable pub channelRecs : ℕ → ℕ → List ℕ → Text → List Rec
-channelRecs t n s x = pack t n (coded 48 (units (bitOf s) 4 (x .at) (x .len)))
+unfoldable pub channelRecs : ℕ → ℕ → ℕ → List ℕ → Text → List Rec
+channelRecs t u n s x = lettered t (numeric u) n (units (bitOf s) 4 (x .at) (x .len))
 
 -- the characters, of w bits each, are in the frame, and so are their places in a word
 pub record InFrame (w : ℕ) (s : List ℕ) (x : Text) : Type 0 where
@@ -36,13 +36,13 @@ pub record SizeRow (r : Range) : Type 0 where
   pub most : r .hi ≤ 256
 
 pub record Texts (k : ℕ) (s : List ℕ) (c : Cursor) (r : TextAt) : Type 0 where
-  pub text : (t : ℕ) → Takes (text t 128 0 (lowest k) (highest k)) s c (r .c) (λ n. textRecs t n s (r .text))
+  pub text : (t : ℕ) → Takes (text t 128 (first 0) (lowest k) (highest k)) s c (r .c) (λ n. textRecs t n s (r .text))
   -- whatever was read
   pub few : r .text .len < 512
   pub held : InFrame 7 s (r .text)
 
 pub record Channel (s : List ℕ) (c : Cursor) (r : TextAt) : Type 0 where
-  pub channel : (t : ℕ) → Takes (text t 10 48 12 12) s c (r .c) (λ n. channelRecs t n s (r .text))
+  pub channel : (t u : ℕ) → Takes (text t 11 (numeric u) 12 12) s c (r .c) (λ n. channelRecs t u n s (r .text))
   -- whatever was read
   pub few : r .text .len ≤ 12
   pub held : InFrame 4 s (r .text)
@@ -71,4 +71,4 @@ pub record Passed (n : ℕ) (s : List ℕ) (c : Cursor) (r : TextAt) : Type 0 wh
 
 -- so many digits
 pub record Digits (n : ℕ) (s : List ℕ) (c d : Cursor) : Type 0 where
-  pub digits : Reads (λ e p. letters (bitOf s) e 4 10 n p (λ q. ok q [] 0)) s c d []
+  pub digits : Reads (λ e p. letters (bitOf s) e 4 11 n p (λ q. ok q [] 0)) s c d []

@@ -45,7 +45,7 @@ pub fn size(s: &[u8], c: Cursor, range: Range) -> Got
     Got { v: v, c: m }
 }
 
-// The satellite channel: twelve characters of four bits, of which those above 9 have mark 1.
+// The satellite channel: twelve characters of four bits, of which those above 10 have mark 1.
 pub fn channel(s: &[u8], c: Cursor) -> TextAt
     ensures { λ r. ⌜ Channel (now (s .entry)) c r ⌝ }
 {
@@ -127,7 +127,7 @@ fn digit(s: &[u8], c: Cursor) -> Cursor
 {
     let g = bits(s, c, 4);
     let d = g.c;
-    if g.v < 10 {
+    if g.v < 11 {
         return d;
     }
     mark(d, 1)

@@ -1,7 +1,7 @@
 // Parts that are told as they are read. Behind a failure nothing more is read, and what is told there means nothing: whoever lends the words looks at the cursor first.
 ghost use mathlib.Core.Path.{_≡_};
 ghost use Prim.Native.Nat.{_<_, _^_};
-ghost use Rattle.atn.specs.Format.{num, text};
+ghost use Rattle.atn.specs.Format.{num, text, first};
 ghost use Rattle.atn.specs.Messages.{extReason};
 ghost use Rattle.cursor.specs.Place.{stopped, Takes};
 ghost use Rattle.cursor.specs.Formats.{Maybe};
@@ -47,7 +47,7 @@ pub fn number(words: &mut [u64], at: Step, s: &[u8], range: Range, tag: u64) -> 
 // A text whose length is of the range.
 pub fn letters(words: &mut [u64], at: Step, s: &[u8], range: Range, tag: u64) -> Step
     requires { ⌜ (at .n < 2 ^ 20) × SizeRow range ⌝ }
-    ensures { λ r. ⌜ Does 64 (Takes (text tag 128 0 (lowest (range .row)) (highest (range .row))) (now (s .entry))) at r (now (words .entry)) (now (words .exit)) ⌝ }
+    ensures { λ r. ⌜ Does 64 (Takes (text tag 128 (first 0) (lowest (range .row)) (highest (range .row))) (now (s .entry))) at r (now (words .entry)) (now (words .exit)) ⌝ }
 {
     let x = ia5(s, at.c, range);
     let c = x.c;
@@ -64,7 +64,7 @@ pub fn maybe_letters(
     tag: u64,
 ) -> Step
     requires { ⌜ (at .n < 2 ^ 20) × SizeRow range ⌝ }
-    ensures { λ r. ⌜ Does 64 (Maybe has (text tag 128 0 (lowest (range .row)) (highest (range .row))) (now (s .entry))) at r (now (words .entry)) (now (words .exit)) ⌝ }
+    ensures { λ r. ⌜ Does 64 (Maybe has (text tag 128 (first 0) (lowest (range .row)) (highest (range .row))) (now (s .entry))) at r (now (words .entry)) (now (words .exit)) ⌝ }
 {
     if has == 0 {
         return at;

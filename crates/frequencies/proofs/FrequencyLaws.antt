@@ -22,7 +22,7 @@ use Rattle.frequencies.specs.Readers.{Frequencies}
 use Rattle.frequencies.proofs.Indices.{pulls-last}
 
 abbrev behind : Alts
-behind = message.digits 59 12 12 ∥ none-left
+behind = message.numericString 59 73 12 12 ∥ none-left
 
 -- a number below 3, a channel from 3 on
 pub number-recs : (k : ℕ) (s : List ℕ) (v : Frequency) (n : ℕ) → k < 3 → numberOrChannel k s v n ≡ rec 58 n (v .number) 0 ∷ []
@@ -31,7 +31,7 @@ number-recs (suc zero) s v n h = refl
 number-recs (suc (suc zero)) s v n h = refl
 number-recs (suc (suc (suc k))) s v n h = absurd (omega arith)
 
-pub channel-recs : (k : ℕ) (s : List ℕ) (v : Frequency) (n : ℕ) → 3 ≤ k → numberOrChannel k s v n ≡ channelRecs 59 n s (v .channel)
+pub channel-recs : (k : ℕ) (s : List ℕ) (v : Frequency) (n : ℕ) → 3 ≤ k → numberOrChannel k s v n ≡ channelRecs 59 73 n s (v .channel)
 channel-recs zero s v n h = absurd (omega arith)
 channel-recs (suc zero) s v n h = absurd (omega arith)
 channel-recs (suc (suc zero)) s v n h = absurd (omega arith)
@@ -52,6 +52,6 @@ module _ {s : List ℕ} {c : Cursor} (g : Got) (p : Pulls s c 2 g) where
   unfolding readChoice frequencyRecs lowest highest width widthIn encoding.highest count
   frequency-channel r l h =
       record {
-        reads = takes-index 57 (rowsThen 58 25 3 behind) 3 _ (record { v = 3; c = g .c }) (pulls-last 2 3 g refl p l) refl (λ x u q. refl) (h .channel 59);
+        reads = takes-index 57 (rowsThen 58 25 3 behind) 3 _ (record { v = 3; c = g .c }) (pulls-last 2 3 g refl p l) refl (λ x u q. refl) (h .channel 59 73);
         held = record { few = h .few; there = h .held };
       }

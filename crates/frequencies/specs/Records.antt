@@ -9,7 +9,7 @@ use Rattle.frequencies.specs.declared.Frequency.{Frequency}
 
 -- behind the kind: a number, or the digits of a channel
 abbrev pub numberOrChannel : ℕ → List ℕ → Frequency → ℕ → List Rec
-numberOrChannel (suc (suc (suc k))) s v n = channelRecs tag.satellite-channel n s (v .channel)
+numberOrChannel (suc (suc (suc k))) s v n = channelRecs tag.satellite-channel tag.satellite-channel-x691 n s (v .channel)
 numberOrChannel (suc (suc zero)) s v n = rec tag.frequency-number n (v .number) 0 ∷ []
 numberOrChannel (suc zero) s v n = rec tag.frequency-number n (v .number) 0 ∷ []
 numberOrChannel zero s v n = rec tag.frequency-number n (v .number) 0 ∷ []

@@ -11,7 +11,7 @@ use borrow.Author.Tests.{leb-true, leb-false}
 use Rattle.atn.specs.Format.{Fmt, Alts, none-left, _∥_}
 use Rattle.atn.specs.Reading.{mark}
 use Rattle.atn.specs.Messages.{noReader, argument, arguments, argumentOf, elements}
-use Rattle.node_tables.specs.Nodes.{nodeWord, memberOf, membersFrom, alternativesFrom, lentAlternatives, formatOf, formatAt}
+use Rattle.node_tables.specs.Nodes.{nodeWord, memberOf, membersFrom, alternativesFrom, lentAlternatives, lettersBy, formatOf, formatAt}
 use Rattle.message_nodes.specs.Table.{table, argumentsRoot}
 
 -- n arguments, from byte j on
@@ -42,7 +42,7 @@ abbrev pub Deep : ℕ → ℕ
 Deep g = suc (suc (suc (suc (suc (suc (suc (suc (suc (suc g)))))))))
 
 whole : (g : ℕ) (down up : List ℕ) → alternativesFrom (λ j. formatAt (Deep g) table down up j) argumentsRoot 17 ≡ argumentsFrom 0 17
-unfolding formatAt formatOf memberOf membersFrom alternativesFrom lentAlternatives nodeWord table argumentsFrom argumentOf mark
+unfolding lettersBy formatAt formatOf memberOf membersFrom alternativesFrom lentAlternatives nodeWord table argumentsFrom argumentOf mark
 whole g down up = refl
 
 none-there : (i : ℕ) → 16 < i → argument noReader ≡ argumentOf i

@@ -7,7 +7,7 @@ use Rattle.atn.specs.Tags as tag
 use Rattle.atn.specs.Format.{Fmt, num, element, seq, choice, many, lax}
 use Rattle.atn.specs.Format.{end, _⨾_, _⨾?_, orNote, Alts}
 use Rattle.atn.specs.Messages.{dateTimeGroup, constrainedData, messageData, atcMessage}
-use Rattle.node_tables.specs.Nodes.{nodeWord, memberOf, membersFrom, alternativesFrom, lentTable, formatOf, formatAt}
+use Rattle.node_tables.specs.Nodes.{nodeWord, memberOf, membersFrom, alternativesFrom, lentTable, lettersBy, formatOf, formatAt}
 use Rattle.message_nodes.specs.Table.{table, downDataRoot, downCarriedRoot, downMessageRoot, upDataRoot, upCarriedRoot, upMessageRoot}
 use Rattle.message_nodes.proofs.Arguments.{Deep, lent-elements}
 
@@ -29,17 +29,17 @@ abbrev left : ℕ → ℕ
 left g = suc (suc (suc (suc (suc (suc (suc g))))))
 
 pub down-carried : (g : ℕ) (down up : List ℕ) → formatAt (Deeper g) table down up downCarriedRoot ≡ lax 7 false (messageData down)
-unfolding formatAt formatOf memberOf membersFrom alternativesFrom lentTable nodeWord table
+unfolding lettersBy formatAt formatOf memberOf membersFrom alternativesFrom lentTable nodeWord table
 down-carried g down up = ap (λ es. carriedBy es) (lent-elements (left g) down up down)
 
 pub up-carried : (g : ℕ) (down up : List ℕ) → formatAt (Deeper g) table down up upCarriedRoot ≡ lax 7 false (messageData up)
-unfolding formatAt formatOf memberOf membersFrom alternativesFrom lentTable nodeWord table
+unfolding lettersBy formatAt formatOf memberOf membersFrom alternativesFrom lentTable nodeWord table
 up-carried g down up = ap (λ es. carriedBy es) (lent-elements (left g) down up up)
 
 pub down-message : (g : ℕ) (down up : List ℕ) → formatAt (Deeper g) table down up downMessageRoot ≡ atcMessage down
-unfolding formatAt formatOf memberOf membersFrom alternativesFrom lentTable nodeWord table
+unfolding lettersBy formatAt formatOf memberOf membersFrom alternativesFrom lentTable nodeWord table
 down-message g down up = ap (λ es. messageBy es) (lent-elements (left g) down up down)
 
 pub up-message : (g : ℕ) (down up : List ℕ) → formatAt (Deeper g) table down up upMessageRoot ≡ atcMessage up
-unfolding formatAt formatOf memberOf membersFrom alternativesFrom lentTable nodeWord table
+unfolding lettersBy formatAt formatOf memberOf membersFrom alternativesFrom lentTable nodeWord table
 up-message g down up = ap (λ es. messageBy es) (lent-elements (left g) down up up)

@@ -11,7 +11,7 @@ use Rattle.atn.specs.Format.{end, _⨾_, _⨾?_, orNote, none-left, _∥_}
 use Rattle.atn.specs.Messages.{ia5, noReader, extReason, dateTimeGroup, messageData, atcMessage, extensionAlternative, aircraftPdus, groundPdus, cmGround, cmAircraft, acse}
 use Rattle.atn.specs.Entries.{pdus, cmOf}
 use Rattle.record_lists.specs.Kinds.{kindOf}
-use Rattle.node_tables.specs.Nodes.{nodeWord, memberOf, membersFrom, alternativesFrom, formatOf, formatAt}
+use Rattle.node_tables.specs.Nodes.{nodeWord, memberOf, membersFrom, alternativesFrom, lettersBy, formatOf, formatAt}
 use Rattle.message_nodes.specs.Table.{table, depth, downMessageRoot, downCarriedRoot, upMessageRoot, upCarriedRoot, downlinkRoot, uplinkRoot, cmAircraftRoot, cmGroundRoot, acseRoot}
 use Rattle.message_nodes.specs.Roots.{byDirection, rootOf}
 use Rattle.message_nodes.proofs.Elements.{Deeper, down-carried, up-carried, down-message, up-message}
@@ -23,15 +23,15 @@ pub nothing : {A : Type 0} {f : Fmt} → none ≡ some f → A
 nothing h = let z : _≡_ {A = ℕ} 0 1 = cc in absurd (omega arith)
 
 acse-whole : (down up : List ℕ) → formatAt depth table down up acseRoot ≡ acse
-unfolding formatAt formatOf memberOf membersFrom alternativesFrom nodeWord table
+unfolding lettersBy formatAt formatOf memberOf membersFrom alternativesFrom nodeWord table
 acse-whole down up = refl
 
 cm-aircraft-whole : (down up : List ℕ) → formatAt depth table down up cmAircraftRoot ≡ cmAircraft
-unfolding formatAt formatOf memberOf membersFrom alternativesFrom nodeWord table
+unfolding lettersBy formatAt formatOf memberOf membersFrom alternativesFrom nodeWord table
 cm-aircraft-whole down up = refl
 
 cm-ground-whole : (down up : List ℕ) → formatAt depth table down up cmGroundRoot ≡ cmGround
-unfolding formatAt formatOf memberOf membersFrom alternativesFrom nodeWord table
+unfolding lettersBy formatAt formatOf memberOf membersFrom alternativesFrom nodeWord table
 cm-ground-whole down up = refl
 
 -- the messages by what their inner strings hold
@@ -56,13 +56,13 @@ groundBy f g h =
     extensionAlternative)
 
 downlink-whole : (down up : List ℕ) → formatAt depth table down up downlinkRoot ≡ aircraftPdus down
-unfolding formatAt formatOf memberOf membersFrom alternativesFrom nodeWord table
+unfolding lettersBy formatAt formatOf memberOf membersFrom alternativesFrom nodeWord table
 downlink-whole down up =
     ap (λ f. aircraftBy f (formatAt (Deeper 1) table down up downMessageRoot)) (down-message 0 down up)
     ∙ ap (λ f. aircraftBy (atcMessage down) f) (down-message 1 down up)
 
 uplink-whole : (down up : List ℕ) → formatAt depth table down up uplinkRoot ≡ groundPdus down up
-unfolding formatAt formatOf memberOf membersFrom alternativesFrom nodeWord table
+unfolding lettersBy formatAt formatOf memberOf membersFrom alternativesFrom nodeWord table
 uplink-whole down up =
     ap (λ f. groundBy f (formatAt (Deeper 0) table down up upCarriedRoot) (formatAt (Deeper 0) table down up downCarriedRoot)) (up-message 1 down up)
     ∙ ap (λ f. groundBy (atcMessage up) f (formatAt (Deeper 0) table down up downCarriedRoot)) (up-carried 0 down up)

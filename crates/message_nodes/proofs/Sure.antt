@@ -15,19 +15,19 @@ use Rattle.record_lists.specs.Clear.{solid, firsts}
 use Rattle.record_lists.specs.Kinds.{spanTag}
 use Rattle.record_lists.specs.Parse.{sameNumbers}
 use Rattle.record_lists.specs.Most.{most}
-use Rattle.node_tables.specs.Nodes.{nodeWord, memberOf, membersFrom, alternativesFrom, formatOf, formatAt}
-use Rattle.node_tables.specs.Sure.{sureMember, sureMembers, sureEach, sureText, sureUnit, sureSize, sureOf, sureAt}
+use Rattle.node_tables.specs.Nodes.{nodeWord, memberOf, membersFrom, alternativesFrom, lettersBy, formatOf, formatAt}
+use Rattle.node_tables.specs.Sure.{sureMember, sureMembers, sureEach, sureText, sureChannel, sureLetters, sureUnit, sureSize, sureOf, sureAt}
 use Rattle.message_nodes.specs.Table.{table, depth, downMessageRoot, downCarriedRoot, upMessageRoot, upCarriedRoot, downlinkRoot, uplinkRoot, cmAircraftRoot, cmGroundRoot, acseRoot}
 use Rattle.message_nodes.specs.Roots.{byDirection, rootOf}
 use Rattle.message_nodes.proofs.Elements.{Deeper, down-carried, up-carried, down-message, up-message}
 use Rattle.message_nodes.proofs.Bounds.{data-most, message-most}
 
 acse-sure : (down up : List ℕ) → sureAt depth table down up acseRoot ≡ true
-unfolding sureMember sureMembers sureEach sureText sureUnit sureSize sureOf sureAt formatAt formatOf memberOf membersFrom alternativesFrom nodeWord table flags solid firsts spanTag sameNumbers member
+unfolding sureMember sureMembers sureEach sureText sureChannel sureLetters sureUnit sureSize sureOf sureAt lettersBy formatAt formatOf memberOf membersFrom alternativesFrom nodeWord table flags solid firsts spanTag sameNumbers member
 acse-sure down up = refl
 
 cm-sure : (d : ℕ) (down up : List ℕ) → sureAt depth table down up (byDirection d cmAircraftRoot cmGroundRoot) ≡ true
-unfolding sureMember sureMembers sureEach sureText sureUnit sureSize sureOf sureAt formatAt formatOf memberOf membersFrom alternativesFrom nodeWord table flags solid firsts spanTag sameNumbers member byDirection
+unfolding sureMember sureMembers sureEach sureText sureChannel sureLetters sureUnit sureSize sureOf sureAt lettersBy formatAt formatOf memberOf membersFrom alternativesFrom nodeWord table flags solid firsts spanTag sameNumbers member byDirection
 cm-sure zero down up = refl
 cm-sure (suc d) down up = refl
 
@@ -62,13 +62,13 @@ abbrev forwardBy : Bool → Bool → Bool
 forwardBy b c = ((b && true) && ((c && true) && true)) && true
 
 downlink-sure : (down up : List ℕ) → length down ≤ 256 → sureAt depth table down up downlinkRoot ≡ true
-unfolding sureMember sureMembers sureEach sureText sureUnit sureSize sureOf sureAt formatAt formatOf memberOf membersFrom alternativesFrom nodeWord table flags solid firsts spanTag sameNumbers member
+unfolding sureMember sureMembers sureEach sureText sureChannel sureLetters sureUnit sureSize sureOf sureAt lettersBy formatAt formatOf memberOf membersFrom alternativesFrom nodeWord table flags solid firsts spanTag sameNumbers member
 downlink-sure down up l =
     ap (λ b. (protectedBy b && true) && (protectedBy (counted 1 down up downMessageRoot) && true)) (down-counted 0 down up l)
     ∙ ap (λ b. protectedBy b && true) (down-counted 1 down up l)
 
 uplink-sure : (down up : List ℕ) → length down ≤ 256 → length up ≤ 256 → sureAt depth table down up uplinkRoot ≡ true
-unfolding sureMember sureMembers sureEach sureText sureUnit sureSize sureOf sureAt formatAt formatOf memberOf membersFrom alternativesFrom nodeWord table flags solid firsts spanTag sameNumbers member
+unfolding sureMember sureMembers sureEach sureText sureChannel sureLetters sureUnit sureSize sureOf sureAt lettersBy formatAt formatOf memberOf membersFrom alternativesFrom nodeWord table flags solid firsts spanTag sameNumbers member
 uplink-sure down up l m =
     ap (λ b. protectedBy b && (protectedBy b && (forwardBy (counted 0 down up upCarriedRoot) (counted 0 down up downCarriedRoot) && true))) (up-counted 1 down up m)
     ∙ ap (λ b. forwardBy b (counted 0 down up downCarriedRoot) && true) (up-carried-counted 0 down up m)

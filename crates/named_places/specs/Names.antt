@@ -1,7 +1,7 @@
 -- Named places, published ones and procedures: their records, what telling them needs, and what their readers read.
 use mathlib.Core.List.{List, _∷_, _++_}
 use Prim.Native.Nat.{ℕ, zero, suc, _<_}
-use Rattle.atn.specs.Format.{Fmt, text, seq, end, _⨾_, _⨾?_}
+use Rattle.atn.specs.Format.{Fmt, text, first, seq, end, _⨾_, _⨾?_}
 use Rattle.atn.specs.Reading.{Rec, rec}
 use Rattle.atn.specs.Messages as message
 use Rattle.atn.specs.Tags as tag
@@ -43,7 +43,7 @@ procedureRecs t u w s v n = rec t n (v .kind) 0 ∷ (textRecs u n s (v .name) ++
 
 -- a named place by the row of its sizes
 abbrev pub namedBy : ℕ → ℕ → Fmt
-namedBy t k = seq (text t 128 0 (lowest k) (highest k) ⨾ message.latlon ⨾? end)
+namedBy t k = seq (text t 128 (first 0) (lowest k) (highest k) ⨾ message.latlon ⨾? end)
 
 pub record NamedPlaces (k : ℕ) (s : List ℕ) (c : Cursor) (r : NamedAt) : Type 0 where
   pub reads : (t : ℕ) → Takes (namedBy t k) s c (r .c) (namedRecs t s (r .named))

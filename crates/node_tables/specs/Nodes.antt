@@ -1,11 +1,11 @@
 -- A format as a table of nodes, six numbers each: a kind, and what it takes. A node that the table has not, or of an unknown kind, has no values.
 use mathlib.Core.Bool.{cond}
 use mathlib.Core.List.{List, [], _∷_}
-use Prim.Native.Nat.{ℕ, zero, suc, _+_, _*_}
+use Prim.Native.Nat.{ℕ, zero, suc, _+_, _-_, _*_}
 use lib.ListN.{getD}
-use lib.Dec.{leb, eqb}
+use lib.Dec.{leb, ltb, eqb}
 use Rattle.atn.specs.Format.{Fmt, num, listed, name, text, span, anySpan, skipped, small, null, noted, placed, marked, refuse, element, ext, seq, loose, choice, many, inner, soft, lax, bad, lack}
-use Rattle.atn.specs.Format.{Flds, end, _⨾_, _⨾?_, orNote, unread, Alts, none-left, _∥_}
+use Rattle.atn.specs.Format.{Flds, end, _⨾_, _⨾?_, orNote, unread, Alts, none-left, _∥_, Letters, first, numeric}
 use Rattle.atn.specs.Messages.{noReader, argument}
 
 -- number j of node k
@@ -36,6 +36,10 @@ unfoldable pub lentTable : List ℕ → List ℕ → ℕ → List ℕ
 lentTable down up zero = down
 lentTable down up (suc n) = up
 
+-- the characters of a text: below 256 the code of the first; from there on a NumericString, and the tag of its second text
+unfoldable pub lettersBy : ℕ → Letters
+lettersBy c = cond (ltb c 256) (first c) (numeric (c - 256))
+
 -- a format by its kind
 unfoldable pub formatOf : (ℕ → Fmt) → List ℕ → List ℕ → List ℕ → ℕ → ℕ → ℕ → ℕ → ℕ → ℕ → Fmt
 formatOf F N down up kind a b c d e =
@@ -44,7 +48,7 @@ formatOf F N down up kind a b c d e =
     ∷ num a b c
     ∷ name a b
     ∷ listed a 30 (0 ∷ 1 ∷ 30 ∷ [])
-    ∷ text a b c d e
+    ∷ text a b (lettersBy c) d e
     ∷ span a b c d
     ∷ anySpan a b
     ∷ null

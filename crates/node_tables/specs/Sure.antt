@@ -1,7 +1,7 @@
 -- What a table must keep so that a list can be written by it: the first tags that it names are those of the parts, the counts are right, and spans alone have the tags of spans.
 use mathlib.Core.Bool.{Bool, true, false, cond, not, _&&_}
 use mathlib.Core.List.{List, [], _∷_}
-use Prim.Native.Nat.{ℕ, zero, suc, _+_}
+use Prim.Native.Nat.{ℕ, zero, suc, _+_, _-_}
 use lib.ListN.{getD}
 use lib.Dec.{leb, ltb, eqb}
 use Rattle.atn.specs.Format.{Fmt}
@@ -23,9 +23,15 @@ unfoldable pub sureEach : (ℕ → Bool) → ℕ → ℕ → Bool
 sureEach S k zero = true
 sureEach S k (suc n) = S k && sureEach S (suc k) n
 
--- the numbers of a text, and of a span
+-- the numbers of a text, of the NumericString of a satellite channel, and of a span
 unfoldable pub sureText : ℕ → ℕ → ℕ → ℕ → Bool
 sureText n c lo hi = (leb 1 lo && leb 1 n) && (leb (c + n) 256 && (leb lo hi && ltb hi 256))
+
+unfoldable pub sureChannel : ℕ → ℕ → ℕ → ℕ → Bool
+sureChannel n c lo hi = (eqb n 11 && not (spanTag (c - 256))) && (eqb lo 12 && eqb hi 12)
+
+unfoldable pub sureLetters : ℕ → ℕ → ℕ → ℕ → Bool
+sureLetters n c lo hi = cond (ltb c 256) (sureText n c lo hi) (sureChannel n c lo hi)
 
 unfoldable pub sureUnit : ℕ → Bool
 sureUnit w = leb 1 w && leb w 64
@@ -40,7 +46,7 @@ sureOf F S N kind a b c d e =
     ∷ not (spanTag a)
     ∷ not (spanTag a)
     ∷ not (spanTag a)
-    ∷ (not (spanTag a) && sureText b c d e)
+    ∷ (not (spanTag a) && sureLetters b c d e)
     ∷ (spanTag a && (sureUnit b && sureSize c d))
     ∷ (spanTag a && sureUnit b)
     ∷ true

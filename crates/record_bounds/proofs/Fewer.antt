@@ -1,9 +1,9 @@
 -- No value of a format has more records than the most that are counted for it.
 use mathlib.Core.Path.{_≡_, refl, ap}
-use mathlib.Core.Bool.{false}
+use mathlib.Core.Bool.{Bool, true, false, cond}
 use mathlib.Core.Option.{Option, none, some}
 use mathlib.Core.Logic.{inl, inr}
-use mathlib.Core.List.{List, [], _∷_}
+use mathlib.Core.List.{List, [], _∷_, _++_}
 use Prim.Native.Nat.{ℕ, zero, suc, _+_, _-_, _*_, _/_, _≤_, max}
 use native.Mathlib.Omega.{arith}
 use native.Mathlib.Nat.{mul-le-mul-right, suc-mul}
@@ -12,26 +12,42 @@ use Rattle.x691.specs.Types.{Value, Values, Pick}
 use Rattle.x691.specs.Encoding.{width, highest, ifAny, encode}
 use Rattle.x691.specs.Range.{All, IfAny, InRange, AllInRange, PickInRange}
 use Rattle.atn.specs.Format.{Fmt, num, listed, name, text, span, anySpan, skipped, small, null, noted, placed, marked, refuse, element, ext, seq, loose, choice, many, inner, soft, lax}
-use Rattle.atn.specs.Format.{Flds, end, _⨾_, _⨾?_, orNote, unread, Alts, none-left, _∥_, typeOf, membersOf, alternativesOf}
-use Rattle.atn.specs.Reading.{Rec, rec, Ctx, packs, pack, coded, spanned}
+use Rattle.atn.specs.Format.{Flds, end, _⨾_, _⨾?_, orNote, unread, Alts, none-left, _∥_, typeOf, membersOf, alternativesOf, Letters, first, numeric}
+use Rattle.atn.specs.Reading.{Rec, rec, Ctx, packs, pack, coded, spaced, noneAbove, lettered, spanned}
 use Rattle.atn.specs.Told.{tell, tellFields, tellPick, tellAny, tellAll}
 use Rattle.atn.specs.Entries.{accept, readFrame}
 use Rattle.atn.proofs.Demands.{Message, clean-message}
-use Rattle.record_bounds.specs.Most.{most, mostFields, mostAlts}
+use Rattle.record_bounds.specs.Most.{texts, most, mostFields, mostAlts}
 
 length-coded : (c : ℕ) (us : List ℕ) → length (coded c us) ≡ length us
 unfolding coded
 length-coded c [] = refl
 length-coded c (u ∷ us) = ap suc (length-coded c us)
 
+length-spaced : (us : List ℕ) → length (spaced us) ≡ length us
+unfolding spaced
+length-spaced [] = refl
+length-spaced (u ∷ us) = ap suc (length-spaced us)
+
 length-packs : (t m n k : ℕ) (cs : List ℕ) → length (packs t m n k cs) ≡ k
 unfolding packs
 length-packs t m n zero cs = refl
 length-packs t m n (suc k) cs = ap suc (length-packs t m n k (drop 8 cs))
 
-text-few : (t m c hi : ℕ) (us : List ℕ) → length us ≤ hi → length (pack t m (coded c us)) ≤ (hi + 7) / 8
+pack-few : (t m hi : ℕ) (cs : List ℕ) → length cs ≤ hi → length (pack t m cs) ≤ (hi + 7) / 8
 unfolding pack
-text-few t m c hi us h = let n = length-coded c us in let k = length-packs t m (length (coded c us)) ((length (coded c us) + 7) / 8) (coded c us) in omega arith
+pack-few t m hi cs h = let k = length-packs t m (length cs) ((length cs + 7) / 8) cs in omega arith
+
+letters-few : (t m hi : ℕ) (c : Letters) (us : List ℕ) → length us ≤ hi → length (lettered t c m us) ≤ texts c * ((hi + 7) / 8)
+letters-few t m hi (first c) us h = omega (arith, pack-few t m hi (coded c us) (omega (arith, length-coded c us)))
+letters-few t m hi (numeric v) us h =
+    let a = pack-few t m hi (coded 48 us) (omega (arith, length-coded 48 us)) in
+    let b = pack-few v m hi (spaced us) (omega (arith, length-spaced us)) in
+    go (noneAbove 10 us) a b
+  where
+    go : (x : Bool) → length (pack t m (coded 48 us)) ≤ (hi + 7) / 8 → length (pack v m (spaced us)) ≤ (hi + 7) / 8 → length (pack t m (coded 48 us) ++ cond x (pack v m (spaced us)) []) ≤ 2 * ((hi + 7) / 8)
+    go true a b = omega (arith, length-append (pack t m (coded 48 us)) (pack v m (spaced us)))
+    go false a b = omega (arith, length-append (pack t m (coded 48 us)) [])
 
 span-few : (t m q n : ℕ) → length (spanned t m q n) ≤ 1
 unfolding spanned
@@ -59,7 +75,7 @@ mutual
   fewer (num t lo hi) v x at g = omega arith
   fewer (listed t hi xs) v x at g = omega arith
   fewer (name t hi) v x at g = omega arith
-  fewer (text t n c lo hi) v x at g = text-few t (x .0) c hi v (g .1)
+  fewer (text t n c lo hi) v x at g = letters-few t (x .0) hi c v (g .1)
   fewer (span t w lo hi) v x at g = span-few t (x .0) _ _
   fewer (anySpan t w) v x at g = span-few t (x .0) _ _
   fewer (skipped m) v x at g = absurd v

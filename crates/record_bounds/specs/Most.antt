@@ -1,14 +1,19 @@
 -- How many records a value of a format has at most.
 use Prim.Native.Nat.{ℕ, _+_, _*_, _/_, max}
 use Rattle.atn.specs.Format.{Fmt, num, listed, name, text, span, anySpan, skipped, small, null, noted, placed, marked, refuse, element, ext, seq, loose, choice, many, inner, soft, lax}
-use Rattle.atn.specs.Format.{Flds, end, _⨾_, _⨾?_, orNote, unread, Alts, none-left, _∥_}
+use Rattle.atn.specs.Format.{Flds, end, _⨾_, _⨾?_, orNote, unread, Alts, none-left, _∥_, Letters, first, numeric}
+
+-- how many texts the characters are told by
+abbrev pub texts : Letters → ℕ
+texts (first c) = 1
+texts (numeric v) = 2
 
 unfoldable mutual
   pub most : Fmt → ℕ
   most (num t lo hi) = 1
   most (listed t hi xs) = 1
   most (name t hi) = 1
-  most (text t n c lo hi) = (hi + 7) / 8
+  most (text t n c lo hi) = texts c * ((hi + 7) / 8)
   most (span t w lo hi) = 1
   most (anySpan t w) = 1
   most (skipped m) = 0

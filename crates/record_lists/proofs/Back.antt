@@ -17,14 +17,14 @@ use Rattle.x691.specs.Encoding.{width, unitBits, encode, index}
 use Rattle.x691.specs.Range.{member, All, IfAny, InRange, AllInRange, PickInRange}
 use Rattle.x691.proofs.Widths.{width-pow}
 use Rattle.atn.specs.Format.{Fmt, num, listed, name, text, span, anySpan, skipped, small, null, noted, placed, marked, refuse, element, ext, seq, loose, choice, many, inner, soft, lax}
-use Rattle.atn.specs.Format.{Flds, end, _⨾_, _⨾?_, orNote, unread, Alts, none-left, _∥_, typeOf, membersOf, alternativesOf}
-use Rattle.atn.specs.Reading.{Ctx, word, octets, coded, units}
+use Rattle.atn.specs.Format.{Flds, end, _⨾_, _⨾?_, orNote, unread, Alts, none-left, _∥_, typeOf, membersOf, alternativesOf, Letters, first, numeric}
+use Rattle.atn.specs.Reading.{Ctx, word, octets, coded, spaced, units}
 use Rattle.atn.proofs.Inverse.{both}
 use Rattle.atn.proofs.Steps.{units-back}
 use Rattle.record_lists.specs.Items.{Item, plain, bits, tagOf}
-use Rattle.record_lists.specs.Shown.{packed, spelt, spanned, showAny, showAll, shown, shownFields, shownPick}
-use Rattle.record_lists.specs.Clear.{apart, solid, solidFields, firsts, firstsFields, single, unlike, ahead, clear, clearFields, clearAlts}
-use Rattle.record_lists.specs.Parse.{opens, valueIn, valueOf, secondIn, secondOf, bitsIn, bitsAt, sameNumbers, same, begins, above, characters, spelled, uncoded, textOf, unitsOf, allBelow, goodSize, Got, no, got, peel, leaf, keep, feed, turn, several, perhaps, parse, parseFields, parsePick}
+use Rattle.record_lists.specs.Shown.{packed, spelt, inLetters, spanned, showAny, showAll, shown, shownFields, shownPick}
+use Rattle.record_lists.specs.Clear.{apart, solid, solidFields, firsts, firstsFields, single, unlike, ahead, clear, clearLetters, clearFields, clearAlts}
+use Rattle.record_lists.specs.Parse.{opens, valueIn, valueOf, secondIn, secondOf, bitsIn, bitsAt, sameNumbers, same, begins, above, characters, spelled, uncoded, codeOf, textOf, unitsOf, allBelow, goodSize, Got, no, got, peel, leaf, keep, feed, turn, several, perhaps, parse, parseFields, parsePick}
 use Rattle.record_lists.specs.Plain.{Says, Unless, AllFrom, Plain, PlainFields, PlainPick}
 use Rattle.record_lists.proofs.Forth.{differ}
 use Rattle.record_lists.proofs.First.{Lead, Follows, member-own, lead-follow, length-span, span-some, lead-all, lead, leadFields, opens-yes, solid-says, opens-no}
@@ -44,7 +44,7 @@ same-self (bits t m xs) = rw (eq-eqb t t refl, eq-eqb m m refl) (same-numbers xs
 ---------------------------------------------------------------- steps
 
 module _ {A : Type 0} where
-  peel-go : (P : List Item) (a : A) (R : List Item) → peel P a (P ++ R) ≡ got a R
+  pub peel-go : (P : List Item) (a : A) (R : List Item) → peel P a (P ++ R) ≡ got a R
   unfolding peel
   peel-go [] a R = refl
   peel-go (i ∷ P) a R = rw (same-self i) (peel-go P a R)
@@ -147,6 +147,14 @@ unfolding textOf spelt
 text-back t m n c lo cs R l k h a =
     ap (λ (z : List ℕ). uncoded c z) (spelt-in-back t m (coded c cs) R ((length (coded c cs) + 7) / 8) refl (omega (arith, length-coded c cs)) (coded-all c n cs k a))
     ∙ uncoded-back c cs
+
+-- from the text that stands first
+letters-back : (sp : ℕ → Bool) (t m n lo : ℕ) (c : Letters) (cs : List ℕ) (R : List Item) → 1 ≤ lo → clearLetters sp n c ≡ true → lo ≤ length cs → All (λ u. u < n) cs
+    → textOf (codeOf c) (inLetters t c m cs ++ R) ≡ cs
+letters-back sp t m n lo (first c) cs R l k h a = text-back t m n c lo cs R l (leb-true (c + n) 256 k) h a
+letters-back sp t m n lo (numeric v) cs R l k h a =
+    let d : n ≤ 11 = leb-true n 11 (both (not (sp v)) (leb n 11) k .1) in
+    rw (append-assoc (spelt t m (coded 48 cs)) (spelt v m (spaced cs)) R) (text-back t m n 48 lo cs (spelt v m (spaced cs) ++ R) l (omega arith) h a)
 
 ---------------------------------------------------------------- spans
 
@@ -300,9 +308,9 @@ mutual
   back (listed t hi xs) v x sp G R c g j w = leaf-go (λ v. plain t (x .0) v 0 ∷ []) (λ v. leb v hi && member v xs) v v R refl (rw (le-leb v hi (g .0), g .1))
   back (name t hi) v x sp G R c g j w = leaf-go (λ v. plain t (x .0) v 0 ∷ []) _ v v R refl (le-leb v (extent 0 hi) g)
   back (text t n k lo hi) v x sp G R c g j w =
-      let d = both (leb 1 lo) (leb (k + n) 256) (both (not (sp t)) (leb 1 lo && leb (k + n) 256) c .1) in
-      leaf-go (λ cs. spelt t (x .0) (coded k cs)) (λ cs. goodSize lo hi (length cs) && allBelow n cs) _ v R
-      (text-back t (x .0) n k lo v R (leb-true 1 lo (d .0)) (leb-true (k + n) 256 (d .1)) (g .0) (g .2)) (string-go n lo hi v g)
+      let d = both (leb 1 lo) (clearLetters sp n k) (both (not (sp t)) (leb 1 lo && clearLetters sp n k) c .1) in
+      leaf-go (λ cs. inLetters t k (x .0) cs) (λ cs. goodSize lo hi (length cs) && allBelow n cs) _ v R
+      (letters-back sp t (x .0) n lo k v R (leb-true 1 lo (d .0)) (d .1) (g .0) (g .2)) (string-go n lo hi v g)
   back (span t u lo hi) v x sp G R c g j w =
       let d = both (sp t) (leb 1 lo && leb 1 u) c in
       let e = both (leb 1 lo) (leb 1 u) (d .1) in

@@ -15,12 +15,12 @@ use Rattle.x691.specs.Encoding.{width, unitBits, encode}
 use Rattle.x691.specs.Range.{member, All, IfAny, InRange, AllInRange, PickInRange}
 use Rattle.x691.proofs.Widths.{width-pow}
 use Rattle.atn.specs.Format.{Fmt, num, listed, name, text, span, anySpan, skipped, small, null, noted, placed, marked, refuse, element, ext, seq, loose, choice, many, inner, soft, lax}
-use Rattle.atn.specs.Format.{Flds, end, _⨾_, _⨾?_, orNote, unread, Alts, none-left, _∥_, typeOf, membersOf, alternativesOf}
-use Rattle.atn.specs.Reading.{Ctx, coded}
+use Rattle.atn.specs.Format.{Flds, end, _⨾_, _⨾?_, orNote, unread, Alts, none-left, _∥_, typeOf, membersOf, alternativesOf, Letters, first, numeric}
+use Rattle.atn.specs.Reading.{Ctx, coded, spaced}
 use Rattle.atn.proofs.Inverse.{both}
 use Rattle.atn.proofs.Steps.{length-units}
 use Rattle.record_lists.specs.Items.{Item, plain, bits, tagOf}
-use Rattle.record_lists.specs.Shown.{packed, spelt, spanned, showAny, showAll, shown, shownFields, shownPick}
+use Rattle.record_lists.specs.Shown.{packed, spelt, inLetters, spanned, showAny, showAll, shown, shownFields, shownPick}
 use Rattle.record_lists.specs.Clear.{apart, solid, solidFields, firsts, firstsFields, single, unlike, ahead}
 use Rattle.record_lists.specs.Parse.{opens, same, begins}
 use Rattle.record_lists.specs.Plain.{Says, Unless}
@@ -100,6 +100,12 @@ unfolding coded
 length-coded c [] = refl
 length-coded c (u ∷ cs) = ap suc (length-coded c cs)
 
+lead-letters : (t m lo : ℕ) (c : Letters) (cs : List ℕ) → lo ≤ length cs → Lead (t ∷ []) (leb 1 lo) (inLetters t c m cs)
+unfolding spelt packed coded spaced tagOf
+lead-letters t m lo (first c) cs h = lead-packed t m lo (length (coded c cs)) (coded c cs) ((length (coded c cs) + 7) / 8) refl (omega (arith, length-coded c cs))
+lead-letters t m lo (numeric v) [] h = lt-leb 1 lo (omega arith)
+lead-letters t m lo (numeric v) (c ∷ cs) h = let e : (suc (length (coded 48 cs)) + 7) / 8 ≡ suc (length (coded 48 cs) / 8) = omega arith in rw e (member-own t)
+
 pub length-span : (w : ℕ) (cs : List ℕ) → length (unitBits (2 ^ w) cs) ≡ length cs * w
 length-span w cs = length-units (λ _. 0) 0 (2 ^ w) cs ∙ rw (width-pow w)
 
@@ -136,7 +142,7 @@ mutual
   lead (num t lo hi) v x g = member-own t
   lead (listed t hi xs) v x g = member-own t
   lead (name t hi) v x g = member-own t
-  lead (text t n c lo hi) v x g = lead-packed t (x .0) lo (length (coded c v)) (coded c v) ((length (coded c v) + 7) / 8) refl (omega (arith, g .0, length-coded c v))
+  lead (text t n c lo hi) v x g = lead-letters t (x .0) lo c v (g .0)
   lead (span t w lo hi) v x g = lead-spanned t (x .0) (leb 1 lo && leb 1 w) (unitBits (2 ^ w) v) (λ q. span-some w lo v (g .0) q)
   lead (anySpan t w) v x g = lead-spanned t (x .0) false (unitBits (2 ^ w) v) (λ q. differ q)
   lead (skipped m) v x g = absurd v

@@ -19,7 +19,7 @@ use Rattle.atn.proofs.Inverse.{both}
 use Rattle.record_lists.specs.Items.{Item, plain, bits}
 use Rattle.record_lists.specs.Shown.{spelt, spanned, showAny, showAll, shown, shownFields, shownPick}
 use Rattle.record_lists.specs.Clear.{firsts}
-use Rattle.record_lists.specs.Parse.{opens, valueOf, bitsAt, sameNumbers, same, begins, above, textOf, unitsOf, allBelow, goodSize, Got, no, got, peel, leaf, keep, feed, turn, several, perhaps, parse, parseFields, parsePick}
+use Rattle.record_lists.specs.Parse.{opens, valueOf, bitsAt, sameNumbers, same, begins, above, codeOf, textOf, unitsOf, allBelow, goodSize, Got, no, got, peel, leaf, keep, feed, turn, several, perhaps, parse, parseFields, parsePick}
 
 -- where no value is got
 pub nothing : {A B : Type 0} {v : A} {S : List Item} → no ≡ got v S → B
@@ -178,7 +178,7 @@ mutual
       ((leb-true v hi (c .0), c .1), y .1)
   forth (name t hi) x R {v} q = let y = leaf-inv _ _ (valueOf R) R q in (leb-true v (extent 0 hi) (y .0), y .1)
   forth (text t n c lo hi) x R {v} q =
-      let y = leaf-inv _ (λ cs. goodSize lo hi (length cs) && allBelow n cs) (textOf c R) R q in
+      let y = leaf-inv _ (λ cs. goodSize lo hi (length cs) && allBelow n cs) (textOf (codeOf c) R) R q in
       (string-inv n lo hi v (y .0), y .1)
   forth (span t w lo hi) x R {v} q =
       let y = leaf-inv _ (λ cs. goodSize lo hi (length cs) && allBelow (2 ^ w) cs) (unitsOf w (bitsAt t R)) R q in

@@ -10,23 +10,23 @@ use native.Mathlib.Nat.{add-zero}
 use native.Mathlib.Numerals.{add-one}
 use lib.ListN.{length, drop, length-append}
 use lib.Dec.{leb}
-use borrow.Author.Tests.{not-true, le-leb}
+use borrow.Author.Tests.{not-true, le-leb, leb-true}
 use Rattle.x691.specs.Bits.{bitsOf, Spells, stretch}
 use Rattle.x691.specs.Types.{Value, Values, Pick, extent}
 use Rattle.x691.specs.Encoding.{width, highest, lengthBits, sizeBits, unitBits, joined, ifAny, preamble, encode, encodeMembers, encodePick, index}
 use Rattle.x691.specs.Range.{member, All, IfAny, InRange, AllInRange, PickInRange}
 use Rattle.x691.proofs.BitLaws.{length-bitsOf, spells-fst, spells-snd}
 use Rattle.atn.specs.Format.{Fmt, num, listed, name, text, span, anySpan, skipped, small, null, noted, placed, marked, refuse, element, ext, seq, loose, choice, many, inner, soft, lax}
-use Rattle.atn.specs.Format.{Flds, end, _⨾_, _⨾?_, orNote, unread, Alts, none-left, _∥_, typeOf, membersOf, alternativesOf}
-use Rattle.atn.specs.Reading.{Rec, rec, Ctx, word, pack, packs, coded, flags}
+use Rattle.atn.specs.Format.{Flds, end, _⨾_, _⨾?_, orNote, unread, Alts, none-left, _∥_, typeOf, membersOf, alternativesOf, Letters, first, numeric}
+use Rattle.atn.specs.Reading.{Rec, rec, Ctx, word, pack, packs, coded, spaced, noneAbove, lettered, flags}
 use Rattle.atn.specs.Reading as reading
 use Rattle.atn.specs.Told.{tellAny, tellAll, tell, tellFields, tellPick}
 use Rattle.atn.proofs.Inverse.{both}
 use Rattle.atn.proofs.Steps.{length-size}
 use Rattle.atn.proofs.Complete.{length-preamble}
 use Rattle.record_lists.specs.Items.{Item, plain, bits, look, inside}
-use Rattle.record_lists.specs.Shown.{packed, spelt, spanned, showAny, showAll, shown, shownFields, shownPick}
-use Rattle.record_lists.specs.Clear.{apart, solid, solidFields, firsts, firstsFields, ahead, clear, clearFields, clearAlts}
+use Rattle.record_lists.specs.Shown.{packed, spelt, inLetters, spanned, showAny, showAll, shown, shownFields, shownPick}
+use Rattle.record_lists.specs.Clear.{apart, solid, solidFields, firsts, firstsFields, ahead, clear, clearLetters, clearFields, clearAlts}
 use Rattle.record_lists.proofs.First.{length-span}
 
 stretch-spelt : (b : ℕ → ℕ) (q : ℕ) (xs : List ℕ) → Spells b q xs → stretch b q (length xs) ≡ xs
@@ -38,6 +38,11 @@ stretch-spelt b q (x ∷ xs) s = rw (s .0, stretch-spelt b (suc q) xs (s .1))
 pub record Seen (sp : ℕ → Bool) (b : ℕ → ℕ) (e : ℕ) (R : List Rec) (S : List Item) : Type 0 where
   pub looks : look sp b R ≡ S
   pub within : inside sp e R ≡ true
+
+none-above : (n : ℕ) (us : List ℕ) → n ≤ 11 → All (λ u. u < n) us → noneAbove 10 us ≡ true
+unfolding noneAbove
+none-above n [] l a = refl
+none-above n (u ∷ us) l a = rw (le-leb u 10 (omega (arith, a .0)), none-above n us l (a .1))
 
 module _ (sp : ℕ → Bool) (b : ℕ → ℕ) (e : ℕ) where
   abbrev See : List Rec → List Item → Type 0
@@ -70,6 +75,16 @@ module _ (sp : ℕ → Bool) (b : ℕ → ℕ) (e : ℕ) where
   unfolding packs packed
   seen-packs t m n zero cs h = seen-nil
   seen-packs t m n (suc k) cs h = seen-one t m (reading.octets 8 cs) n h (seen-packs t m n k (drop 8 cs) h)
+
+  seen-pack : (t m : ℕ) (cs : List ℕ) → not (sp t) ≡ true → See (pack t m cs) (spelt t m cs)
+  unfolding pack spelt
+  seen-pack t m cs h = seen-packs t m (length cs) ((length cs + 7) / 8) cs h
+
+  seen-letters : (t n m : ℕ) (c : Letters) (us : List ℕ) → not (sp t) ≡ true → clearLetters sp n c ≡ true → All (λ u. u < n) us → See (lettered t c m us) (inLetters t c m us)
+  seen-letters t n m (first c) us h k a = seen-pack t m (coded c us) h
+  seen-letters t n m (numeric v) us h k a =
+      let d = both (not (sp v)) (leb n 11) k in
+      rw (none-above n us (leb-true n 11 (d .1)) a) (seen-join (seen-pack t m (coded 48 us) h) (seen-pack v m (spaced us) (d .0)))
 
   seen-span : (t m q n : ℕ) (xs : List ℕ) → sp t ≡ true → length xs ≡ n → Spells b q xs → q + n ≤ e → See (reading.spanned t m q n) (spanned t m xs)
   unfolding look inside reading.spanned spanned
@@ -115,7 +130,9 @@ module _ (sp : ℕ → Bool) (b : ℕ → ℕ) (e : ℕ) where
     seen (num t lo hi) v x G at c g s l = seen-one t (x .0) (word (lo + v)) 0 (both (not (sp t)) (leb lo 18446744073709551616) c .0) seen-nil
     seen (listed t hi xs) v x G at c g s l = seen-one t (x .0) v 0 c seen-nil
     seen (name t hi) v x G at c g s l = seen-one t (x .0) v 0 c seen-nil
-    seen (text t n k lo hi) v x G at c g s l = seen-packs t (x .0) (length (coded k v)) ((length (coded k v) + 7) / 8) (coded k v) (both (not (sp t)) (leb 1 lo && leb (k + n) 256) c .0)
+    seen (text t n k lo hi) v x G at c g s l =
+        let d = both (not (sp t)) (leb 1 lo && clearLetters sp n k) c in
+        seen-letters t n (x .0) k v (d .0) (both (leb 1 lo) (clearLetters sp n k) (d .1) .1) (g .2)
     seen (span t w lo hi) v x G at c g s l =
         let z : List ℕ = sizeBits lo hi (length v) in
         let r : List ℕ = unitBits (2 ^ w) v in

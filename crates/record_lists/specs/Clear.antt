@@ -5,7 +5,7 @@ use Prim.Native.Nat.{ℕ, _+_}
 use lib.Dec.{leb}
 use Rattle.x691.specs.Range.{member}
 use Rattle.atn.specs.Format.{Fmt, num, listed, name, text, span, anySpan, skipped, small, null, noted, placed, marked, refuse, element, ext, seq, loose, choice, many, inner, soft, lax}
-use Rattle.atn.specs.Format.{Flds, end, _⨾_, _⨾?_, orNote, unread, Alts, none-left, _∥_}
+use Rattle.atn.specs.Format.{Flds, end, _⨾_, _⨾?_, orNote, unread, Alts, none-left, _∥_, Letters, first, numeric}
 
 -- no tag of the first list is in the second
 unfoldable pub apart : List ℕ → List ℕ → Bool
@@ -111,6 +111,11 @@ unlike t s f = not (member t (firsts f)) || (leb 1 s && single f)
 unfoldable pub ahead : List ℕ → Bool → List ℕ → List ℕ
 ahead F s G = F ++ cond s [] G
 
+-- each of n units has a character, and both texts are texts
+abbrev pub clearLetters : (ℕ → Bool) → ℕ → Letters → Bool
+clearLetters sp n (first c) = leb (c + n) 256
+clearLetters sp n (numeric v) = not (sp v) && leb n 11
+
 -- The test, with the tags G behind the part: a list shows one value at most, spans and nothing else have the tags of spans,
 -- numbers are those of a word, and characters those of an octet.
 unfoldable mutual
@@ -118,7 +123,7 @@ unfoldable mutual
   clear sp (num t lo hi) G = not (sp t) && leb lo 18446744073709551616
   clear sp (listed t hi xs) G = not (sp t)
   clear sp (name t hi) G = not (sp t)
-  clear sp (text t n c lo hi) G = not (sp t) && (leb 1 lo && leb (c + n) 256)
+  clear sp (text t n c lo hi) G = not (sp t) && (leb 1 lo && clearLetters sp n c)
   clear sp (span t w lo hi) G = sp t && (leb 1 lo && leb 1 w)
   clear sp (anySpan t w) G = sp t && (leb 1 w && not (member t G))
   clear sp (skipped m) G = true

@@ -11,10 +11,10 @@ use Rattle.x691.specs.Types.{Value, Values, Pick, extent}
 use Rattle.x691.specs.Encoding.{unitBits, encode}
 use Rattle.x691.specs.Range.{member}
 use Rattle.atn.specs.Format.{Fmt, num, listed, name, text, span, anySpan, skipped, small, null, noted, placed, marked, refuse, element, ext, seq, loose, choice, many, inner, soft, lax}
-use Rattle.atn.specs.Format.{Flds, end, _⨾_, _⨾?_, orNote, unread, Alts, none-left, _∥_, typeOf, membersOf, alternativesOf}
-use Rattle.atn.specs.Reading.{Ctx, word, coded, units}
+use Rattle.atn.specs.Format.{Flds, end, _⨾_, _⨾?_, orNote, unread, Alts, none-left, _∥_, typeOf, membersOf, alternativesOf, Letters, first, numeric}
+use Rattle.atn.specs.Reading.{Ctx, word, units}
 use Rattle.record_lists.specs.Items.{Item, plain, bits, tagOf}
-use Rattle.record_lists.specs.Shown.{spelt, spanned}
+use Rattle.record_lists.specs.Shown.{inLetters, spanned}
 use Rattle.record_lists.specs.Clear.{firsts}
 
 ---------------------------------------------------------------- the item at the front
@@ -86,6 +86,11 @@ unfoldable pub uncoded : ℕ → List ℕ → List ℕ
 uncoded c [] = []
 uncoded c (x ∷ xs) = (x - c) ∷ uncoded c xs
 
+-- the code of the first unit, in the text that stands first
+abbrev pub codeOf : Letters → ℕ
+codeOf (first c) = c
+codeOf (numeric v) = 48
+
 unfoldable pub textOf : ℕ → List Item → List ℕ
 textOf c R = uncoded c (spelled (secondOf R) ((secondOf R + 7) / 8) R)
 
@@ -148,7 +153,7 @@ unfoldable mutual
   parse (num t lo hi) x R = leaf (λ v. plain t (x .0) (word (lo + v)) 0 ∷ []) (λ v. leb v (extent lo hi)) (above lo (valueOf R)) R
   parse (listed t hi xs) x R = leaf (λ v. plain t (x .0) v 0 ∷ []) (λ v. leb v hi && member v xs) (valueOf R) R
   parse (name t hi) x R = leaf (λ v. plain t (x .0) v 0 ∷ []) (λ v. leb v (extent 0 hi)) (valueOf R) R
-  parse (text t n c lo hi) x R = leaf (λ cs. spelt t (x .0) (coded c cs)) (λ cs. goodSize lo hi (length cs) && allBelow n cs) (textOf c R) R
+  parse (text t n c lo hi) x R = leaf (λ cs. inLetters t c (x .0) cs) (λ cs. goodSize lo hi (length cs) && allBelow n cs) (textOf (codeOf c) R) R
   parse (span t w lo hi) x R = leaf (λ cs. spanned t (x .0) (unitBits (2 ^ w) cs)) (λ cs. goodSize lo hi (length cs) && allBelow (2 ^ w) cs) (unitsOf w (bitsAt t R)) R
   parse (anySpan t w) x R = leaf (λ cs. spanned t (x .0) (unitBits (2 ^ w) cs)) (λ cs. ltb (length cs) 16384 && allBelow (2 ^ w) cs) (unitsOf w (bitsAt t R)) R
   parse (skipped m) x R = no

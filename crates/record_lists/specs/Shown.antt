@@ -7,8 +7,8 @@ use lib.ListN.{length, drop}
 use Rattle.x691.specs.Types.{Value, Values, Pick}
 use Rattle.x691.specs.Encoding.{unitBits, index}
 use Rattle.atn.specs.Format.{Fmt, num, listed, name, text, span, anySpan, skipped, small, null, noted, placed, marked, refuse, element, ext, seq, loose, choice, many, inner, soft, lax}
-use Rattle.atn.specs.Format.{Flds, end, _⨾_, _⨾?_, orNote, unread, Alts, none-left, _∥_, typeOf, membersOf, alternativesOf}
-use Rattle.atn.specs.Reading.{Ctx, word, octets, coded}
+use Rattle.atn.specs.Format.{Flds, end, _⨾_, _⨾?_, orNote, unread, Alts, none-left, _∥_, typeOf, membersOf, alternativesOf, Letters, first, numeric}
+use Rattle.atn.specs.Reading.{Ctx, word, octets, coded, spaced}
 use Rattle.record_lists.specs.Items.{Item, plain, bits}
 
 -- k items of a text of n characters, eight to an item
@@ -18,6 +18,11 @@ packed t m n (suc k) cs = plain t m (octets 8 cs) n ∷ packed t m n k (drop 8 c
 
 unfoldable pub spelt : ℕ → ℕ → List ℕ → List Item
 spelt t m cs = packed t m (length cs) ((length cs + 7) / 8) cs
+
+-- a text by its units
+abbrev pub inLetters : ℕ → Letters → ℕ → List ℕ → List Item
+inLetters t (first c) m us = spelt t m (coded c us)
+inLetters t (numeric v) m us = spelt t m (coded 48 us) ++ spelt v m (spaced us)
 
 -- a span that is not empty
 unfoldable pub spanned : ℕ → ℕ → List ℕ → List Item
@@ -39,7 +44,7 @@ unfoldable mutual
   shown (num t lo hi) v x = plain t (x .0) (word (lo + v)) 0 ∷ []
   shown (listed t hi xs) v x = plain t (x .0) v 0 ∷ []
   shown (name t hi) v x = plain t (x .0) v 0 ∷ []
-  shown (text t n c lo hi) cs x = spelt t (x .0) (coded c cs)
+  shown (text t n c lo hi) cs x = inLetters t c (x .0) cs
   shown (span t w lo hi) cs x = spanned t (x .0) (unitBits (2 ^ w) cs)
   shown (anySpan t w) cs x = spanned t (x .0) (unitBits (2 ^ w) cs)
   shown (skipped m) v x = absurd v

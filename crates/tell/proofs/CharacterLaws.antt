@@ -1,45 +1,75 @@
 -- Characters by where they stand, and the records of all of them.
 use mathlib.Core.Path.{_≡_, refl, sym, ap, _∙_}
-use mathlib.Core.Bool.{Bool, true, false}
+use mathlib.Core.Bool.{Bool, true, false, cond}
 use mathlib.Core.List.{List, [], _∷_, _++_, append-assoc, append-nil}
 use Prim.Native.Nat.{ℕ, zero, suc, _+_, _-_, _*_, _/_, _≤_, _<_}
 use native.Mathlib.Nat.{suc-mul, add-zero, add-suc, suc-add}
 use native.Mathlib.Omega.{arith}
 use lib.ListN.{length, drop, length-append}
-use lib.Dec.{ltb}
+use lib.Dec.{ltb, eqb}
 use borrow.Author.Tests.{ltb-true, ltb-false}
 use Rattle.x691.specs.Bits.{bitOf, uint}
-use Rattle.atn.specs.Reading.{Rec, rec, octets, packs, pack, coded, units}
+use Rattle.atn.specs.Reading.{Rec, rec, octets, packs, pack, coded, spaced, units}
 use Rattle.records.specs.Told.{Told}
 use Rattle.records.proofs.Telling.{told-none, told-then, told-within, told-length}
 use Rattle.tell.specs.declared.characters.Run.{Run}
-use Rattle.tell.specs.Characters.{from}
+use Rattle.tell.specs.Characters.{unitsFrom, counted, from}
 
 ---------------------------------------------------------------- characters
 
-length-coded : (b : ℕ → ℕ) (w c at n : ℕ) → length (coded c (units b w at n)) ≡ n
-unfolding coded units
-length-coded b w c at zero = refl
-length-coded b w c at (suc n) = ap suc (length-coded b w c (at + w) n)
+length-units : (b : ℕ → ℕ) (w at n : ℕ) → length (units b w at n) ≡ n
+unfolding units
+length-units b w at zero = refl
+length-units b w at (suc n) = ap suc (length-units b w (at + w) n)
+
+length-coded : (c : ℕ) (us : List ℕ) → length (coded c us) ≡ length us
+unfolding coded
+length-coded c [] = refl
+length-coded c (u ∷ us) = ap suc (length-coded c us)
+
+length-spaced : (us : List ℕ) → length (spaced us) ≡ length us
+unfolding spaced
+length-spaced [] = refl
+length-spaced (u ∷ us) = ap suc (length-spaced us)
 
 module _ (s : List ℕ) (r : Run) where
-  abbrev code : ℕ → ℕ
-  code i = r .first + uint (bitOf s) (r .at + i * r .width) (r .width)
+  abbrev unit : ℕ → ℕ
+  unit i = uint (bitOf s) (r .at + i * r .width) (r .width)
 
-  from-next : (i : ℕ) → i < r .len → from s r i ≡ code i ∷ from s r (suc i)
-  unfolding from coded units
-  from-next i h =
+  abbrev code : ℕ → ℕ
+  code i = cond (r .spaced) (cond (eqb (unit i) 0) 32 (47 + unit i)) (r .first + unit i)
+
+  units-next : (i : ℕ) → i < r .len → unitsFrom s r i ≡ unit i ∷ unitsFrom s r (suc i)
+  unfolding units
+  units-next i h =
       let e : r .len - i ≡ suc (r .len - suc i) = omega arith in
       let f : r .at + i * r .width + r .width ≡ r .at + suc i * r .width = omega (arith, suc-mul i (r .width)) in
       rw (e, f)
 
+  from-next : (i : ℕ) → i < r .len → from s r i ≡ code i ∷ from s r (suc i)
+  unfolding from counted spaced coded
+  from-next i h = rw (units-next i h) (go (r .spaced))
+    where
+      go : (t : Bool) → cond t (spaced (unit i ∷ unitsFrom s r (suc i))) (coded (r .first) (unit i ∷ unitsFrom s r (suc i)))
+          ≡ cond t (cond (eqb (unit i) 0) 32 (47 + unit i)) (r .first + unit i) ∷ cond t (spaced (unitsFrom s r (suc i))) (coded (r .first) (unitsFrom s r (suc i)))
+      go true = refl
+      go false = refl
+
   from-none : (i : ℕ) → r .len ≤ i → from s r i ≡ []
-  unfolding from coded units
-  from-none i h = let e : r .len - i ≡ 0 = omega arith in rw e
+  unfolding from counted spaced coded units
+  from-none i h = let e : r .len - i ≡ 0 = omega arith in rw e (go (r .spaced))
+    where
+      go : (t : Bool) → cond {A = List ℕ} t [] [] ≡ []
+      go true = refl
+      go false = refl
 
   from-length : length (from s r 0) ≡ r .len
-  unfolding from
-  from-length = length-coded _ _ _ _ (r .len - 0) ∙ omega arith
+  unfolding from counted
+  from-length = go (r .spaced) (length-units (bitOf s) (r .width) (r .at + 0 * r .width) (r .len - 0))
+    where
+      go : (t : Bool) → length (unitsFrom s r 0) ≡ r .len - 0 → length (cond t (spaced (unitsFrom s r 0)) (coded (r .first) (unitsFrom s r 0))) ≡ r .len
+      go true q = length-spaced (unitsFrom s r 0) ∙ omega arith
+      go false q = length-coded (r .first) (unitsFrom s r 0) ∙ omega arith
 
   from-drop : (k i : ℕ) → drop k (from s r i) ≡ from s r (i + k)
   from-drop zero i = rw (add-zero i)

@@ -11,7 +11,7 @@ use Rattle.x691.specs.Bits.{bitOf, uint}
 use Rattle.per.proofs.Laws.{uint-below, uint-split}
 use Rattle.atn.specs.Reading.{octets, coded, units}
 use Rattle.tell.specs.declared.characters.Run.{Run}
-use Rattle.tell.specs.Characters.{from, Spelt, widened}
+use Rattle.tell.specs.Characters.{counted, Spelt, widened}
 use Rattle.tell.proofs.WideningLaws.{ones, widened-fewer}
 
 pow-octets : (j : ℕ) → 256 ^ j ≡ 2 ^ (8 * j)
@@ -81,7 +81,7 @@ pub record Placed (s : List ℕ) (r : Run) (i k : ℕ) : Type 0 where
 -- x, eight octets with the k lowest not yet moved up, becomes the eight characters
 pub record Packed (s : List ℕ) (r : Run) (i k x : ℕ) : Type 0 where
   pub fits : x + r .first * (ones 8 8 / 2 ^ (64 - 8 * k)) < 2 ^ 64
-  pub all : (x + r .first * (ones 8 8 / 2 ^ (64 - 8 * k))) * 2 ^ (64 - 8 * k) % 2 ^ 64 ≡ octets 8 (from s r i)
+  pub all : (x + r .first * (ones 8 8 / 2 ^ (64 - 8 * k))) * 2 ^ (64 - 8 * k) % 2 ^ 64 ≡ octets 8 (counted s r i)
 
 module _ (s : List ℕ) (r : Run) (i : ℕ) {k : ℕ} (z : Spelt s r) (h : i < r .len) (e : k ≡ min 8 (r .len - i)) where
   pub eight-placed : Placed s r i k
@@ -98,7 +98,7 @@ module _ (s : List ℕ) (r : Run) (i : ℕ) {k : ℕ} (z : Spelt s r) (h : i < r
   here = characters s (r .first) (r .width) (r .at + i * r .width) k
 
   pub eight-packed : {v x : ℕ} → v ≡ uint (bitOf s) (r .at + i * r .width) (k * r .width) → x ≡ widened (r .width) 8 8 v → Packed s r i k x
-  unfolding from
+  unfolding counted
   eight-packed {x = x} f g =
       let p = r .at + i * r .width in
       let there : 8 - k + k ≡ 8 = omega arith in

@@ -1,31 +1,67 @@
 -- The two alphabets: their characters as the contracts of the readers have them.
-use mathlib.Core.Path.{_≡_}
-use mathlib.Core.List.{List}
+use mathlib.Core.Path.{_≡_, refl, ap}
+use mathlib.Core.Bool.{Bool, true, false}
+use mathlib.Core.List.{List, append-nil}
 use Prim.Native.Nat.{ℕ, _+_, _-_, _*_, _/_, _≤_, _<_}
 use native.Mathlib.Nat.{zero-mul}
 use native.Mathlib.Omega.{arith}
 use Rattle.x691.specs.Bits.{bitOf}
-use Rattle.atn.specs.Reading.{pack, coded, units}
+use Rattle.atn.specs.Reading.{pack, coded, spaced, units, noneAbove}
 use Rattle.records.specs.Told.{Told}
-use Rattle.records.proofs.Telling.{told-within}
+use Rattle.records.proofs.Telling.{told-within, told-then}
 use Rattle.character_strings.specs.declared.Text.{Text}
-use Rattle.character_strings.specs.Texts.{textRecs, channelRecs}
+use Rattle.character_strings.specs.Texts.{textRecs, channelRecs, InFrame}
 use Rattle.character_strings.proofs.TextLaws.{coded-nil}
 use Rattle.tell.specs.declared.characters.Run.{Run}
-use Rattle.tell.specs.Characters.{from}
+use Rattle.tell.specs.Characters.{unitsFrom, counted, from, Spelt}
 
-from-all : (s : List ℕ) (r : Run) → from s r 0 ≡ coded (r .first) (units (bitOf s) (r .width) (r .at) (r .len))
-unfolding from
-from-all s r =
-    let e : r .at + 0 * r .width ≡ r .at = omega (arith, zero-mul (r .width)) in
-    let f : r .len - 0 ≡ r .len = omega arith in
-    rw (e, f)
+module _ (s : List ℕ) (at len w c : ℕ) where
+  -- all of them
+  abbrev run : Bool → Run
+  run t = record { at = at; len = len; width = w; first = c; spaced = t }
+
+  units-all : (t : Bool) → unitsFrom s (run t) 0 ≡ units (bitOf s) w at len
+  units-all t =
+      let e : at + 0 * w ≡ at = omega (arith, zero-mul w) in
+      let f : len - 0 ≡ len = omega arith in
+      rw (e, f)
+
+  from-coded : from s (run false) 0 ≡ coded c (units (bitOf s) w at len)
+  unfolding from counted
+  from-coded = ap (coded c) (units-all false)
+
+  from-spaced : from s (run true) 0 ≡ spaced (units (bitOf s) w at len)
+  unfolding from counted
+  from-spaced = ap spaced (units-all true)
+
+---------------------------------------------------------------- where they stand
+
+module _ {s : List ℕ} {x : Text} where
+  pub spelt-text : InFrame 7 s x → Spelt s (run s (x .at) (x .len) 7 0 false)
+  spelt-text h = record { there = h .there; fits = h .fits; narrow = omega arith; octet = omega arith; numeric = λ q. absurd (let z : _≡_ {A = ℕ} 0 1 = cc in omega arith) }
+
+  pub spelt-channel : (t : Bool) → InFrame 4 s x → Spelt s (run s (x .at) (x .len) 4 48 t)
+  spelt-channel t h = record { there = h .there; fits = h .fits; narrow = omega arith; octet = omega arith; numeric = λ q. (refl, refl) }
+
+---------------------------------------------------------------- their records
+
+module _ (s : List ℕ) (x : Text) where
+  abbrev characters : List ℕ
+  characters = units (bitOf s) 4 (x .at) (x .len)
+
+  -- as the source has them, or as X.680 has them
+  abbrev Tells : Bool → ℕ → ℕ → List ℕ → List ℕ → ℕ → ℕ → Type 0
+  Tells b t e w w′ n m = Told ((x .len + 7) / 8) w w′ n m (pack t e (from s (record { at = x .at; len = x .len; width = 4; first = 48; spaced = b }) 0))
 
 module _ (t e : ℕ) (s : List ℕ) (x : Text) {w w′ : List ℕ} {n m : ℕ} where
-  pub told-text : x .len < 512 → Told ((x .len + 7) / 8) w w′ n m (pack t e (from s (record { at = x .at; len = x .len; width = 7; first = 0 }) 0)) → Told 64 w w′ n m (textRecs t e s x)
+  pub told-text : x .len < 512 → Told ((x .len + 7) / 8) w w′ n m (pack t e (from s (record { at = x .at; len = x .len; width = 7; first = 0; spaced = false }) 0)) → Told 64 w w′ n m (textRecs t e s x)
   unfolding textRecs
-  told-text h p = told-within 64 (omega arith) (rw (from-all s (record { at = x .at; len = x .len; width = 7; first = 0 }), coded-nil (units (bitOf s) 7 (x .at) (x .len))) at p)
+  told-text h p = told-within 64 (omega arith) (rw (from-coded s (x .at) (x .len) 7 0, coded-nil (units (bitOf s) 7 (x .at) (x .len))) at p)
 
-  pub told-channel : x .len ≤ 12 → Told ((x .len + 7) / 8) w w′ n m (pack t e (from s (record { at = x .at; len = x .len; width = 4; first = 48 }) 0)) → Told 2 w w′ n m (channelRecs t e s x)
+  pub told-digits : (u : ℕ) → x .len ≤ 12 → noneAbove 10 (characters s x) ≡ false → Tells s x false t e w w′ n m → Told 4 w w′ n m (channelRecs t u e s x)
   unfolding channelRecs
-  told-channel h p = told-within 2 (omega arith) (rw (from-all s (record { at = x .at; len = x .len; width = 4; first = 48 })) at p)
+  told-digits u h q p = told-within {j = (x .len + 7) / 8} 4 (omega arith) (rw (q, append-nil (pack t e (coded 48 (characters s x)))) (rw (from-coded s (x .at) (x .len) 4 48) at p))
+
+  pub told-both : {w″ : List ℕ} {l : ℕ} (u : ℕ) → x .len ≤ 12 → noneAbove 10 (characters s x) ≡ true → Tells s x false t e w w′ n m → Tells s x true u e w′ w″ m l → Told 4 w w″ n l (channelRecs t u e s x)
+  unfolding channelRecs
+  told-both u h q p r = told-within {j = (x .len + 7) / 8 + (x .len + 7) / 8} 4 (omega arith) (rw q (told-then (rw (from-coded s (x .at) (x .len) 4 48) at p) (rw (from-spaced s (x .at) (x .len) 4 48) at r)))

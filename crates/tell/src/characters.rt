@@ -3,17 +3,19 @@ ghost use mathlib.Core.Path.{_≡_};
 ghost use Prim.Native.Nat.{min, _+_, _/_, _<_, _^_};
 ghost use Rattle.atn.specs.Reading.{octets, pack};
 ghost use Rattle.records.specs.Told.{Told};
-ghost use Rattle.tell.specs.Characters.{Spelt, from};
+ghost use Rattle.tell.specs.Characters.{Spelt, counted, from};
 use super::spread::spread;
+use numeric_strings::spaced_eight;
 use per::number::wide;
 use records::emit;
 
-// The place of the first character's bit, the number of characters, the bits of each, and the code of the first of the alphabet.
+// The place of the first character's bit, the number of characters, the bits of each, and the code of the first of the alphabet; whether they are told as X.680 has the characters of a NumericString.
 pub struct Run {
     pub at: usize,
     pub len: usize,
     pub width: usize,
     pub first: u64,
+    pub spaced: bool,
 }
 
 // A one in each octet.
@@ -28,17 +30,29 @@ pub fn tell_run(words: &mut [u64], n: usize, tag: u64, element: u64, s: &[u8], r
     let mut m = n;
     let mut i: usize = 0;
     while i < len {
-        let v = eight(s, r, i);
+        let v = told(s, r, i);
         m = emit(words, m, tag, element, v, len as u64);
         i += 8;
     }
     m
 }
 
-// The eight characters from i on as one number, the first in the highest octet, and zero for each that is missing.
-fn eight(s: &[u8], r: Run, i: usize) -> u64
+// The eight characters from i on as one number, as they are told.
+fn told(s: &[u8], r: Run, i: usize) -> u64
     requires { ⌜ (i < r .len) × Spelt (now s) r ⌝ }
     ensures { λ v. ⌜ v ≡ octets 8 (from (now (s .entry)) r i) ⌝ }
+{
+    let v = eight(s, r, i);
+    if r.spaced {
+        return spaced_eight(v);
+    }
+    v
+}
+
+// The eight characters from i on as one number, the first in the highest octet, and zero for each that is missing. Their codes count from the first one's.
+fn eight(s: &[u8], r: Run, i: usize) -> u64
+    requires { ⌜ (i < r .len) × Spelt (now s) r ⌝ }
+    ensures { λ v. ⌜ v ≡ octets 8 (counted (now (s .entry)) r i) ⌝ }
 {
     let width = r.width;
     let k = at_most_eight(r.len - i);

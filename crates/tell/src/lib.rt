@@ -1,10 +1,14 @@
 // Texts told: their characters are read where they stand in the frame, and put into the lent words eight to a record.
+ghost use mathlib.Core.Path.{_≡_};
 ghost use Prim.Native.Nat.{_<_, _≤_, _^_};
+ghost use Rattle.x691.specs.Bits.{bitOf};
+ghost use Rattle.atn.specs.Reading.{units, noneAbove};
 ghost use Rattle.character_strings.specs.Texts.{textRecs, channelRecs, InFrame};
 ghost use Rattle.records.specs.Told.{Told};
 use character_strings::Text;
 use characters::Run;
 use characters::tell_run;
+use per::number::wide;
 
 mod characters; // characters.rt: characters by where they stand, whatever their alphabet
 mod spread; // spread.rt: characters of fewer bits, put into octets
@@ -19,20 +23,58 @@ pub fn tell_text(words: &mut [u64], n: usize, tag: u64, element: u64, s: &[u8], 
         len: x.len,
         width: 7,
         first: 0,
+        spaced: false,
     };
     tell_run(words, n, tag, element, s, run)
 }
 
-// The digits of a satellite channel, of four bits each: raw 0 is the digit 0.
-pub fn tell_channel(words: &mut [u64], n: usize, tag: u64, element: u64, s: &[u8], x: Text) -> usize
-    requires { ⌜ (n < 2 ^ 31) × (x .len ≤ 12) × InFrame 4 (now s) x ⌝ }
-    ensures { λ m. ⌜ Told 2 (now (words .entry)) (now (words .exit)) n m (channelRecs tag element (now (s .entry)) x) ⌝ }
+// The characters of a satellite channel, of four bits each: as the source has them, where raw 0 is the digit 0, and behind that with a tag of its own as X.680 has them, where raw 0 is the space and 10 the last digit.
+pub fn tell_channel(
+    words: &mut [u64],
+    n: usize,
+    tag: u64,
+    x691: u64,
+    element: u64,
+    s: &[u8],
+    x: Text,
+) -> usize
+    requires { ⌜ (n ≤ 2 ^ 30) × (x .len ≤ 12) × InFrame 4 (now s) x ⌝ }
+    ensures { λ m. ⌜ Told 4 (now (words .entry)) (now (words .exit)) n m (channelRecs tag x691 element (now (s .entry)) x) ⌝ }
 {
-    let run = Run {
+    let digits = Run {
         at: x.at,
         len: x.len,
         width: 4,
         first: 48,
+        spaced: false,
     };
-    tell_run(words, n, tag, element, s, run)
+    let m = tell_run(words, n, tag, element, s, digits);
+    if none_above_ten(s, x) {
+        let numerals = Run {
+            at: x.at,
+            len: x.len,
+            width: 4,
+            first: 48,
+            spaced: true,
+        };
+        return tell_run(words, m, x691, element, s, numerals);
+    }
+    m
+}
+
+// Whether X.680 has a character for each.
+fn none_above_ten(s: &[u8], x: Text) -> bool
+    requires { ⌜ (x .len ≤ 12) × InFrame 4 (now s) x ⌝ }
+    ensures { λ r. ⌜ r ≡ noneAbove 10 (units (bitOf (now (s .entry))) 4 (x .at) (x .len)) ⌝ }
+{
+    let at = x.at;
+    let len = x.len;
+    let mut i: usize = 0;
+    while i < len {
+        if wide(s, at + i * 4, 4) > 10 {
+            return false;
+        }
+        i += 1;
+    }
+    true
 }

@@ -1,4 +1,4 @@
-// The records of a frequency, put into the lent words behind the first n. The digits of a channel are read where they stand in the frame s.
+// The records of a frequency, put into the lent words behind the first n. The characters of a channel are read where they stand in the frame s.
 ghost use Prim.Native.Nat.{_<_, _^_};
 ghost use Rattle.records.specs.Told.{Told};
 ghost use Rattle.frequencies.specs.Records.{frequencyRecs, HeldChannel};
@@ -8,12 +8,12 @@ use tell::tell_channel;
 
 pub fn tell_frequency(words: &mut [u64], n: usize, element: u64, s: &[u8], x: Frequency) -> usize
     requires { ⌜ (n < 2 ^ 30) × HeldChannel (now s) (x .channel) ⌝ }
-    ensures { λ m. ⌜ Told 3 (now (words .entry)) (now (words .exit)) n m (frequencyRecs (now (s .entry)) x element) ⌝ }
+    ensures { λ m. ⌜ Told 5 (now (words .entry)) (now (words .exit)) n m (frequencyRecs (now (s .entry)) x element) ⌝ }
 {
     let channel = x.channel;
     let m = emit(words, n, 57, element, x.kind, 0);
     if x.kind < 3 {
         return emit(words, m, 58, element, x.number, 0);
     }
-    tell_channel(words, m, 59, element, s, channel)
+    tell_channel(words, m, 59, 73, element, s, channel)
 }

@@ -14,8 +14,8 @@ use Rattle.atn.proofs.Inverse.{both}
 use Rattle.bit_writer.specs.Put.{setBits}
 use Rattle.record_lists.specs.Kinds.{spanTag}
 use Rattle.record_lists.specs.Parse.{parse}
-use Rattle.node_tables.specs.Nodes.{formatOf}
-use Rattle.node_tables.specs.Sure.{sureOf, sureText, sureUnit, sureSize}
+use Rattle.node_tables.specs.Nodes.{lettersBy, formatOf}
+use Rattle.node_tables.specs.Sure.{sureOf, sureLetters, sureUnit, sureSize}
 use Rattle.pens.specs.declared.Pen.{Pen}
 use Rattle.pens.specs.Writes.{Part}
 use Rattle.write_leaves.specs.Lent.{SureLeaf}
@@ -39,16 +39,12 @@ module _ (a b c d e : ℕ) {kind : ℕ} where
   unfolding sureOf
   sure-reason k h = not-true (spanTag a) (rw k at h)
 
-  pub sure-text : kind ≡ 4 → SureLeaf kind a b c d e → (spanTag a ≡ false) × (1 ≤ d) × (1 ≤ b) × (c + b ≤ 256) × (d ≤ e) × (e < 256)
-  unfolding sureOf sureText
+  pub sure-text : kind ≡ 4 → SureLeaf kind a b c d e → (spanTag a ≡ false) × (sureLetters b c d e ≡ true)
+  unfolding sureOf
   sure-text k h =
-      let f : not (spanTag a) && ((leb 1 d && leb 1 b) && (leb (c + b) 256 && (leb d e && ltb e 256))) ≡ true = rw k at h in
-      let g = both (not (spanTag a)) ((leb 1 d && leb 1 b) && (leb (c + b) 256 && (leb d e && ltb e 256))) f in
-      let i = both (leb 1 d && leb 1 b) (leb (c + b) 256 && (leb d e && ltb e 256)) (g .1) in
-      let j = both (leb 1 d) (leb 1 b) (i .0) in
-      let l = both (leb (c + b) 256) (leb d e && ltb e 256) (i .1) in
-      let m = both (leb d e) (ltb e 256) (l .1) in
-      (not-true (spanTag a) (g .0), leb-true 1 d (j .0), leb-true 1 b (j .1), leb-true (c + b) 256 (l .0), leb-true d e (m .0), ltb-true e 256 (m .1))
+      let f : not (spanTag a) && sureLetters b c d e ≡ true = rw k at h in
+      let g = both (not (spanTag a)) (sureLetters b c d e) f in
+      (not-true (spanTag a) (g .0), g .1)
 
   pub sure-span : kind ≡ 5 → SureLeaf kind a b c d e → (spanTag a ≡ true) × (1 ≤ b) × (b ≤ 64) × (1 ≤ c) × (c ≤ d) × (d < 256)
   unfolding sureOf sureSize
@@ -88,7 +84,7 @@ module _ (F : ℕ → Fmt) (N down up : List ℕ) (a b c d e : ℕ) {kind : ℕ}
   unfolding formatOf
   reason-leaf k = rw k
 
-  pub text-leaf : kind ≡ 4 → formatOf F N down up kind a b c d e ≡ text a b c d e
+  pub text-leaf : kind ≡ 4 → formatOf F N down up kind a b c d e ≡ text a b (lettersBy c) d e
   unfolding formatOf
   text-leaf k = rw k
 

@@ -8,6 +8,7 @@ ghost use Rattle.atn.specs.Format.{Fmt};
 ghost use Rattle.node_tables.specs.Nodes.{formatOf};
 ghost use Rattle.pens.specs.Writes.{Part};
 ghost use Rattle.write_leaves.specs.Lent.{Lent, SureLeaf};
+use super::letters::write_letters;
 use pens::Pen;
 use pens::refuse;
 use write_numbers::write_name;
@@ -15,7 +16,6 @@ use write_numbers::write_number;
 use write_numbers::write_reason;
 use write_spans::write_any_span;
 use write_spans::write_span;
-use write_texts::write_text;
 
 pub fn write_leaf(
     words: &[u64],
@@ -44,7 +44,7 @@ pub fn write_leaf(
         return write_reason(words, m, out, p, x, a);
     }
     if kind == 4 {
-        return write_text(words, m, out, p, x, a, b, c, d, e);
+        return write_letters(words, m, out, p, x, a, b, c, d, e);
     }
     if kind == 5 {
         return write_span(words, m, src, out, p, x, a, b, c, d);

@@ -5,3 +5,5 @@ pub mod TextLaws
 pub mod WordWrites
 pub mod RecordWrites
 pub mod TextWrites
+pub mod ChannelLaws
+pub mod ChannelWrites

@@ -26,7 +26,7 @@ all-drop n zero us a = a
 all-drop n (suc k) [] a = a
 all-drop n (suc k) (u ∷ us) a = all-drop n k us (a .1)
 
-coded-drop : (c k : ℕ) (us : List ℕ) → drop k (coded c us) ≡ coded c (drop k us)
+pub coded-drop : (c k : ℕ) (us : List ℕ) → drop k (coded c us) ≡ coded c (drop k us)
 unfolding coded
 coded-drop c zero us = refl
 coded-drop c (suc k) [] = refl

@@ -3,7 +3,7 @@ ghost use mathlib.Core.Path.{_≡_};
 ghost use mathlib.Core.Bool.{false};
 ghost use Prim.Native.Nat.{ℕ, _+_, _*_, _^_, _≤_, _<_};
 ghost use lib.ListN.{length};
-ghost use Rattle.atn.specs.Format.{text};
+ghost use Rattle.atn.specs.Format.{text, first};
 ghost use Rattle.record_lists.specs.Kinds.{spanTag};
 ghost use Rattle.pens.specs.Writes.{Part};
 use pens::Pen;
@@ -11,6 +11,7 @@ use pens::ink;
 use pens::refuse;
 use per::width::bits_for;
 
+pub mod channel; // channel.rt: a satellite channel, whose characters stand there twice
 mod word; // word.rt: the characters of one word
 mod record; // record.rt: the characters of records, eight to a record
 
@@ -28,7 +29,7 @@ pub fn write_text(
     hi: u64,
 ) -> Pen
     requires { ⌜ (m * 4 ≤ length (now words)) × (m < 2 ^ 32) × (spanTag tag ≡ false) × (1 ≤ lo) × (1 ≤ n) × (c + n ≤ 256) × (lo ≤ hi) ⌝ }
-    ensures { λ r. ⌜ ((b : ℕ → ℕ) (y : ℕ) → Part (text tag n c lo hi) (element, y) b (now (words .entry)) m p (now (out .entry)) r (now (out .exit))) ⌝ }
+    ensures { λ r. ⌜ ((b : ℕ → ℕ) (y : ℕ) → Part (text tag n (first c) lo hi) (element, y) b (now (words .entry)) m p (now (out .entry)) r (now (out .exit))) ⌝ }
 {
     let i = p.next;
     if m <= i {

@@ -55,9 +55,17 @@ def degrees(text, reads):
     return [(tag.DEGREES, "MT".index(kind), 0), (tag.DEGREES_NUMBER, int(number), 0)]
 
 
+def by_x691(shown):
+    """The Rust's first character is `0`, X.691's the space; the Rust shows the last of X.691's eleven as `:`."""
+    if max(shown) > ":":
+        return []
+    return characters(tag.SATELLITE_CHANNEL_X691, "".join(" 0123456789"[ord(character) - ord("0")] for character in shown))
+
+
 def frequency(text, reads):
     if text.startswith("SAT "):
-        return [(tag.FREQUENCY, 3, 0)] + characters(tag.SATELLITE_CHANNEL, fit("SAT (.{12})", text)[0])
+        shown = fit("SAT (.{12})", text)[0]
+        return [(tag.FREQUENCY, 3, 0)] + characters(tag.SATELLITE_CHANNEL, shown) + by_x691(shown)
     kind = reads[0][1]
     number = fit([r"(\d+) kHz", r"(\d+\.\d{3}) MHz", r"(\d+\.\d{3}) MHz"][kind], text)[0]
     return [(tag.FREQUENCY, kind, 0), (tag.FREQUENCY_NUMBER, exact(scaled(number), [1, 5, 25][kind]), 0)]

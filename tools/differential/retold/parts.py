@@ -71,12 +71,14 @@ def frequency(reads):
     if kind < 3:
         reads.number(tag.FREQUENCY_NUMBER, *FREQUENCIES[kind])
         return
-    digits = []
+    raws = []
     for _ in range(12):
-        digits.append(ord("0") + reads.take(4))
-        if digits[-1] > ord("9"):
-            reads.marks.add(1)  # by 01's words; the Rust shows the next characters
-    reads.characters(tag.SATELLITE_CHANNEL, digits)
+        raws.append(reads.take(4))
+        if raws[-1] > 10:
+            reads.marks.add(1)  # by 02's words, d); the Rust shows the next characters
+    reads.characters(tag.SATELLITE_CHANNEL, [ord("0") + raw for raw in raws])
+    if max(raws) <= 10:
+        reads.characters(tag.SATELLITE_CHANNEL_X691, [b" 0123456789"[raw] for raw in raws])
 
 
 def code(reads):

@@ -62,7 +62,12 @@ def degrees(records):
 def frequency(records):
     kind = records.number(tag.FREQUENCY)
     if kind == 3:
-        return "SAT " + records.text(tag.SATELLITE_CHANNEL)
+        shown = records.text(tag.SATELLITE_CHANNEL)
+        if max(shown) <= ":":
+            numeric = "".join(" 0123456789"[ord(character) - ord("0")] for character in shown)
+            if records.text(tag.SATELLITE_CHANNEL_X691) != numeric:
+                raise Misfit(f"not the channel {shown!r} by X.691")
+        return "SAT " + shown
     number = records.number(tag.FREQUENCY_NUMBER)
     return pick([f"{number} kHz", parts(number * 5, 3) + " MHz", parts(number * 25, 3) + " MHz"], kind)
 

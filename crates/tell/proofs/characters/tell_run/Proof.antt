@@ -14,8 +14,8 @@ abbrev μ-loop : tie.MeasureT-loop
 loop-holds : tie.Need-loop-holds Inv-loop μ-loop
 loop-holds c = (omega arith, upto-none)
 
-eight-requires : tie.Need-eight-requires Inv-loop μ-loop
-eight-requires c κs = (c .loop-test .taken, c .before .before .before .before .pre .2)
+told-requires : tie.Need-told-requires Inv-loop μ-loop
+told-requires c κs = (c .loop-test .taken, c .before .before .before .before .pre .2)
 
 emit-requires : tie.Need-emit-requires Inv-loop μ-loop
 emit-requires c κs = omega (arith, c .before .before .before .loop .inv .1 .count, c .before .before .before .before .before .before .pre)
@@ -26,7 +26,7 @@ add-i c = omega (arith, c .before .before .before .before .before .before .befor
 loop-again : tie.Need-loop-again Inv-loop μ-loop
 loop-again c =
     let l = c .before .before .before .before .before .before .loop in
-    (omega (arith, l .inv .0), upto-more (c .before .before .before .before .before .loop-test .taken) (l .inv .1) (c .before .before .before .before .eight .ensures) (c .before .before .emit .ensures))
+    (omega (arith, l .inv .0), upto-more (c .before .before .before .before .before .loop-test .taken) (l .inv .1) (c .before .before .before .before .told .ensures) (c .before .before .emit .ensures))
 
 same-length : tie.Need-same-length Inv-loop μ-loop
 same-length c = upto-length (c .before .loop .inv .1)
@@ -37,4 +37,4 @@ returns c = upto-all (c .loop-test .left) (c .before .loop .inv .1)
 pub tell-run-spec : {M : Type 1} → statement M
 tell-run-spec =
     tie.close
-    (tie.spec Inv-loop μ-loop loop-holds eight-requires emit-requires add-i (λ c. omega arith) loop-again same-length returns)
+    (tie.spec Inv-loop μ-loop loop-holds told-requires emit-requires add-i (λ c. omega arith) loop-again same-length returns)

@@ -11,7 +11,7 @@ use Rattle.write_numbers.proofs.write_number.Reads as write-number-reads
 use Rattle.write_numbers.proofs.write_reason.Reads as write-reason-reads
 use Rattle.write_spans.proofs.write_any_span.Reads as write-any-span-reads
 use Rattle.write_spans.proofs.write_span.Reads as write-span-reads
-use Rattle.write_texts.proofs.write_text.Reads as write-text-reads
+use Rattle.write_leaves.proofs.letters.write_letters.Reads as write-letters-reads
 
 -- src/leaf.rt:38:9
 write-number-requires : tie.Need-write-number-requires
@@ -62,10 +62,10 @@ returns-3 c =
     λ F N D U y. part-as _ _ _ _ _ _ _ _ _ _ (reason-leaf F N D U (e .args .a) (e .args .b) (e .args .c) (e .args .d) (e .args .e) (c .before .before .before .before .if3 .taken)) ((c .before .before .write-reason .ensures) (bitOf (e .args .src .now)) y)
 
 -- src/leaf.rt:47:9
-write-text-requires : tie.Need-write-text-requires
-write-text-requires c κs =
+write-letters-requires : tie.Need-write-letters-requires
+write-letters-requires c κs =
     let e = c .before .before .before .before .before .before .before .before in
-    let s = (sure-text (e .args .a) (e .args .b) (e .args .c) (e .args .d) (e .args .e) (c .before .if4 .taken) ((e .pre) .2)) in (((e .pre) .0 .records), ((e .pre) .0 .few), s .0, s .1, s .2, s .3, s .4)
+    let s = (sure-text (e .args .a) (e .args .b) (e .args .c) (e .args .d) (e .args .e) (c .before .if4 .taken) ((e .pre) .2)) in (((e .pre) .0 .records), ((e .pre) .0 .few), s .0, s .1)
 
 -- src/leaf.rt:47:9
 same-length-4 : tie.Need-same-length-4
@@ -75,7 +75,7 @@ same-length-4 c = search needs
 returns-4 : tie.Need-returns-4
 returns-4 c =
     let e = c .before .before .before .before .before .before .before .before .before .before .before in
-    λ F N D U y. part-as _ _ _ _ _ _ _ _ _ _ (text-leaf F N D U (e .args .a) (e .args .b) (e .args .c) (e .args .d) (e .args .e) (c .before .before .before .before .if4 .taken)) ((c .before .before .write-text .ensures) (bitOf (e .args .src .now)) y)
+    λ F N D U y. part-as _ _ _ _ _ _ _ _ _ _ (text-leaf F N D U (e .args .a) (e .args .b) (e .args .c) (e .args .d) (e .args .e) (c .before .before .before .before .if4 .taken)) ((c .before .before .write-letters .ensures) (bitOf (e .args .src .now)) y)
 
 -- src/leaf.rt:50:9
 write-span-requires : tie.Need-write-span-requires
@@ -138,7 +138,7 @@ write-leaf-spec =
     write-reason-requires
     same-length-3
     returns-3
-    write-text-requires
+    write-letters-requires
     same-length-4
     returns-4
     write-span-requires
