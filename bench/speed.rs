@@ -15,6 +15,7 @@ struct Numbers {
     marks: u64,
     records: usize,
     need: usize,
+    lacked: usize,
 }
 
 // crates/adjagosk/include/adjagosk.h

@@ -16,20 +16,23 @@ pub fn parse_acse_apdu(frame: &[u8], words: &mut [u64]) -> Answer
             number: 1,
             reach: 0,
             need: 0,
+            lacked: 0,
         };
     }
     let apdu = acse_apdus::read_apdu(frame);
     match apdu {
         acse_apdus::Apdu::Heard(message) => telling::settle_message(message, words),
-        acse_apdus::Apdu::RanOut(reach) => Answer::Refused {
+        acse_apdus::Apdu::RanOut(reach, lacked) => Answer::Refused {
             number: 4,
             reach: reach,
             need: 0,
+            lacked: lacked,
         },
         acse_apdus::Apdu::Badly(reach) => Answer::Refused {
             number: 5,
             reach: reach,
             need: 0,
+            lacked: 0,
         },
     }
 }

@@ -61,6 +61,7 @@ pub fn settle_message(message: Message, words: &mut [u64]) -> Answer
             number: 7,
             reach: message.reach,
             need: need,
+            lacked: 0,
         };
     }
     // no more words than the records need, so that those behind them stay

@@ -2,7 +2,7 @@
 use mathlib.Core.Path.{_≡_, refl, sym, ap, _∙_}
 use mathlib.Core.Bool.{true, false, not}
 use mathlib.Core.List.{List, [], _∷_, _++_}
-use Prim.Native.Nat.{ℕ, zero, suc, _*_, _<_}
+use Prim.Native.Nat.{ℕ, zero, suc, _*_, _/_, _<_}
 use native.Mathlib.Omega.{arith}
 use lib.ListN.{length}
 use lib.Dec.{eqb}
@@ -35,12 +35,12 @@ unfolding glue softly passOver kept reply
 soft-reply (ok p R n) Q S m d h = by-why d
     (λ z. let e = h ∙ so-far-on d S z in rw (eq-eqb (d .why) 0 z) (cc))
     (λ z. let e = h ∙ so-far-off d S z in absurd (let y : _≡_ {A = ℕ} 0 1 = cc in omega arith))
-soft-reply (past p R n) Q S m d h = by-why d
+soft-reply (past lacked p R n) Q S m d h = by-why d
     (λ z. let e = h ∙ so-far-on d S z in absurd (let y : _≡_ {A = ℕ} 0 1 = cc in omega arith))
     (λ z. let e = h ∙ so-far-off d S z in absurd (let y : _≡_ {A = ℕ} 0 1 = cc in omega arith))
 soft-reply (stop w p R n) Q S m d h = by-why d
     (λ z. let e = h ∙ so-far-on d S z in absurd (let y : _≡_ {A = ℕ} 0 1 = cc in omega arith))
-    (λ z. let e = h ∙ so-far-off d S z in let y : w ≡ out = cc in rw (ne-eqb (d .why) 0 z, y) (cc))
+    (λ z. let e = h ∙ so-far-off d S z in let y : w ≡ out (d .why / 16) = cc in rw (ne-eqb (d .why) 0 z, y) (cc))
 
 abbrev pdus : Alts
 pdus = marked 3 ∥ marked 3 ∥ release tag.release-request-reason ∥ release tag.release-response-reason ∥ abort ∥ none-left
@@ -76,7 +76,7 @@ abbrev Header : List ℕ → ℕ → ℕ → ℕ → Ans
 Header s v u q = fork v (read (choice tag.acse-pdu pdus) (0, 0) (bitOf s) u q) (then (ok q [] (mark 2)) λ r. read (extended tag.acse-pdu) (0, 0) (bitOf s) u r)
 
 -- a reading that has stopped, and one that goes on
-stopped-reply : (c : Cursor) (k : ℕ → Ans) → (c .why ≡ 0 → ⊥) → reply (then (soFar c []) k) ≡ ranOut (c .at)
+stopped-reply : (c : Cursor) (k : ℕ → Ans) → (c .why ≡ 0 → ⊥) → reply (then (soFar c []) k) ≡ ranOut (c .at) (c .why / 16)
 unfolding then reply stopped
 stopped-reply c k n = rw (so-far-off c [] n)
 
@@ -108,7 +108,7 @@ module _ {s : List ℕ} {g : Got} (x : Pulls s (start s) 1 g) where
       let k : ℕ → Ans = λ p. read acse (0, 0) (bitOf s) (length s * 8) p in
       ap reply (sym (going (start s) k refl ∙ glue-nil (k 0)) ∙ pulled-step 1 g (Header s) [] (x .gave begins))
 
-  pub hears-short : (g .c .why ≡ 0 → ⊥) → Hears s (RanOut (g .c .at))
+  pub hears-short : (g .c .why ≡ 0 → ⊥) → Hears s (RanOut (g .c .at) (g .c .why / 16))
   hears-short n = record { is = behind-extension ∙ stopped-reply (g .c) _ n }
 
   module _ (z : g .c .why ≡ 0) where
@@ -125,7 +125,7 @@ module _ {s : List ℕ} {g : Got} (x : Pulls s (start s) 1 g) where
       unfolding fork read width widthIn highest count
       behind-index = behind-extension ∙ rw o (ap reply (pulled-step 3 h (Index s) [] (y .gave inside)))
 
-      pub hears-no-index : (h .c .why ≡ 0 → ⊥) → Hears s (RanOut (h .c .at))
+      pub hears-no-index : (h .c .why ≡ 0 → ⊥) → Hears s (RanOut (h .c .at) (h .c .why / 16))
       hears-no-index n = record { is = behind-index ∙ stopped-reply (h .c) _ n }
 
       module _ (w : h .c .why ≡ 0) where

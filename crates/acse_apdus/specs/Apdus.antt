@@ -19,7 +19,7 @@ messageReply m = accept (m .cut) (m .reach) (m .marks) (rec tag.acse-pdu 0 (m .p
 
 abbrev pub replyOf : Apdu → Reply
 replyOf (Heard m) = messageReply m
-replyOf (RanOut p) = ranOut p
+replyOf (RanOut p k) = ranOut p k
 replyOf (Badly p) = badly p
 
 -- the message of a body, cut where the frame ended in it

@@ -21,10 +21,10 @@ pub struct Message {
     pub next: Note,
 }
 
-// A message, or the reach where the frame ran out or was badly formed.
+// A message, or the reach where the frame ran out, with the bits lacked, or was badly formed.
 pub enum Apdu {
     Heard(Message),
-    RanOut(usize),
+    RanOut(usize, usize),
     Badly(usize),
 }
 
@@ -60,7 +60,7 @@ pub fn read_apdu(s: &[u8]) -> Apdu
     let extension = bits(s, start, 1);
     let c = extension.c;
     if c.why != 0 {
-        return Apdu::RanOut(c.at);
+        return Apdu::RanOut(c.at, (c.why / 16) as usize);
     }
     if extension.v != 0 {
         return heard(0, 1, unread(c, 2));
@@ -69,7 +69,7 @@ pub fn read_apdu(s: &[u8]) -> Apdu
     let pdu = index.v;
     let d = index.c;
     if d.why != 0 {
-        return Apdu::RanOut(d.at);
+        return Apdu::RanOut(d.at, (d.why / 16) as usize);
     }
     if 4 < pdu {
         return Apdu::Badly(d.at);

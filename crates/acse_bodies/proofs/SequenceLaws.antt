@@ -24,7 +24,7 @@ use Rattle.acse_reasons.proofs.FormatLaws.{Read, fork-set}
 then-end : (a : Ans) → then a (λ p. ok p [] 0) ≡ a
 unfolding then glue late
 then-end (ok p R m) = rw (append-nil R, or-nil m)
-then-end (past p R m) = rw (append-nil R, or-nil m)
+then-end (past lacked p R m) = rw (append-nil R, or-nil m)
 then-end (stop w p R m) = refl
 
 -- the presence bit is pulled like any other: where it is not there, the window ends at its place
@@ -33,14 +33,15 @@ module _ (fs : Flds) (b : ℕ → ℕ) (e at : ℕ) (one : flags fs ≡ 1) (plai
   unfolding read
   seq-pull h = rw (one, plain b, plain (within b e)) (go (leb (at + 1) e) refl)
     where
-      go : (t : Bool) → leb (at + 1) e ≡ t → fetch b e at 1 (λ _. then (ok (at + 1) [] 0) λ p. readFields fs (0, 0) b e at p) (stop out (at + (e - at)) [] 0) ≡ pull b e at 1 K
+      go : (t : Bool) → leb (at + 1) e ≡ t → fetch b e at 1 (λ _. then (ok (at + 1) [] 0) λ p. readFields fs (0, 0) b e at p) (stop (out 1) (at + (e - at)) [] 0) ≡ pull b e at 1 K
       go true y =
           let l : at + 1 ≤ e = leb-true (at + 1) e y in
           fetch-go b e at 1 _ _ l ∙ then-nil (at + 1) (λ p. readFields fs (0, 0) b e at p) ∙ h ∙ ap K (sym (uint-one b at)) ∙ sym (pull-go b e at 1 K l)
       go false y =
           let l : e < at + 1 = leb-false (at + 1) e y in
           let z : at + (e - at) ≡ at = omega arith in
-          fetch-no b e at 1 _ _ l ∙ rw z (sym (pull-no b e at 1 K l))
+          let one-bit : at + 1 - e ≡ 1 = omega arith in
+          fetch-no b e at 1 _ _ l ∙ ap (λ (k : ℕ). stop (out k) (at + (e - at)) [] 0) (sym one-bit) ∙ rw z (sym (pull-no b e at 1 K l))
 
 ---------------------------------------------------------------- a part whose absence is told
 

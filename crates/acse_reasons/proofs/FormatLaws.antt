@@ -2,7 +2,7 @@
 use mathlib.Core.Path.{_≡_, refl, sym}
 use mathlib.Core.Bool.{Bool, true, false, cond, _&&_}
 use mathlib.Core.List.{List, [], _∷_}
-use Prim.Native.Nat.{ℕ, zero, suc, _+_}
+use Prim.Native.Nat.{ℕ, zero, suc, _+_, _-_}
 use lib.Dec.{leb, eqb}
 use Rattle.x691.specs.Bits.{bitOf, uint}
 use Rattle.x691.specs.Range.{member}
@@ -57,9 +57,9 @@ pull-quiet : (b : ℕ → ℕ) (e at n : ℕ) (k : ℕ → Ans) → ((v : ℕ) �
 unfolding pull fetch
 pull-quiet b e at n k h = go (leb (at + n) e)
   where
-    go : (t : Bool) → Quiet (cond t (k (uint b at n)) (stop out at [] 0))
+    go : (t : Bool) → Quiet (cond t (k (uint b at n)) (stop (out (at + n - e)) at [] 0))
     go true = h (uint b at n)
-    go false = (refl, refl)
+    go false = refl
 
 pub keeps-number : (t lo hi : ℕ) {s : List ℕ} {c d : Cursor} {T : ℕ → List Rec} → Takes (num t lo hi) s c d T → Keeps (num t lo hi) s c d (cond (eqb (d .why) 0) (T 0) [])
 unfolding read

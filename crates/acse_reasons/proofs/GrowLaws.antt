@@ -2,18 +2,18 @@
 use mathlib.Core.Path.{_≡_, refl, sym, _∙_}
 use mathlib.Core.Bool.{Bool, true, false, cond}
 use mathlib.Core.List.{List, [], _++_, append-nil, append-assoc}
-use Prim.Native.Nat.{ℕ, zero, suc, _+_}
+use Prim.Native.Nat.{ℕ, zero, suc, _+_, _-_, _/_}
 use native.Mathlib.Omega.{arith}
 use lib.Dec.{eqb}
 use borrow.Author.Tests.{eq-eqb, ne-eqb}
 use Rattle.x691.specs.Bits.{bitOf}
-use Rattle.atn.specs.Format.{out}
+use Rattle.atn.specs.Format.{out, bad, lack, quit}
 use Rattle.atn.specs.Reading.{Rec, Ans, ok, past, stop, glue, late, then, or}
 use Rattle.atn.proofs.Marks.{or-assoc, or-nil}
 use Rattle.atn.proofs.Steps.{pull-go, pull-no}
 use Rattle.cursor.specs.declared.place.Cursor.{Cursor}
 use Rattle.cursor.specs.declared.place.Got.{Got}
-use Rattle.cursor.specs.Place.{put, stopped, marked, Inside, Pulled, stuck, short, got, Pulls, Led, stayed, went, failed, Reads}
+use Rattle.cursor.specs.Place.{number, put, stopped, marked, Inside, Pulled, stuck, short, got, Pulls, Led, stayed, went, failed, Reads}
 use Rattle.cursor.proofs.Laws.{Behind}
 use Rattle.acse_reasons.specs.SoFar.{soFar, Grew, Grows}
 
@@ -23,7 +23,7 @@ pub so-far-on : (c : Cursor) (R : List Rec) → c .why ≡ 0 → soFar c R ≡ o
 unfolding soFar
 so-far-on c R z = rw (eq-eqb (c .why) 0 z)
 
-pub so-far-off : (c : Cursor) (R : List Rec) → (c .why ≡ 0 → ⊥) → soFar c R ≡ stop out (c .at) R (c .marks)
+pub so-far-off : (c : Cursor) (R : List Rec) → (c .why ≡ 0 → ⊥) → soFar c R ≡ stop (out (c .why / 16)) (c .at) R (c .marks)
 unfolding soFar
 so-far-off c R n = rw (ne-eqb (c .why) 0 n)
 
@@ -46,19 +46,19 @@ module _ (R : List Rec) (m : ℕ) where
   pub glue-glue : (S : List Rec) (n : ℕ) (a : Ans) → glue (R ++ S) (or m n) a ≡ glue R m (glue S n a)
   unfolding glue
   glue-glue S n (ok p T l) = rw (append-assoc R S T, or-assoc m n l)
-  glue-glue S n (past p T l) = rw (append-assoc R S T, or-assoc m n l)
+  glue-glue S n (past lacked p T l) = rw (append-assoc R S T, or-assoc m n l)
   glue-glue S n (stop w p T l) = rw (append-assoc R S T, or-assoc m n l)
 
-  late-glue : (S : List Rec) (n : ℕ) (a : Ans) → late (R ++ S) (or m n) a ≡ glue R m (late S n a)
+  late-glue : (i : ℕ) (S : List Rec) (n : ℕ) (a : Ans) → late i (R ++ S) (or m n) a ≡ glue R m (late i S n a)
   unfolding glue late
-  late-glue S n (ok p T l) = rw (append-assoc R S T, or-assoc m n l)
-  late-glue S n (past p T l) = rw (append-assoc R S T, or-assoc m n l)
-  late-glue S n (stop w p T l) = rw (append-assoc R S T, or-assoc m n l)
+  late-glue i S n (ok p T l) = rw (append-assoc R S T, or-assoc m n l)
+  late-glue i S n (past lacked p T l) = rw (append-assoc R S T, or-assoc m n l)
+  late-glue i S n (stop w p T l) = rw (append-assoc R S T, or-assoc m n l)
 
   glue-then : (a : Ans) (l : ℕ → Ans) → then (glue R m a) l ≡ glue R m (then a l)
   unfolding then glue
   glue-then (ok p S n) l = glue-glue S n (l p)
-  glue-then (past p S n) l = late-glue S n (l p)
+  glue-then (past lacked p S n) l = late-glue lacked S n (l p)
   glue-then (stop w p S n) l = refl
 
 so-far-then : (c : Cursor) (Q : List Rec) (k l : ℕ → Ans) → then (soFar c Q) (λ p. then (k p) l) ≡ then (then (soFar c Q) k) l
@@ -110,8 +110,11 @@ grows-mark {s} {c} {d} m q = go (eqb (d .why) 0) (grows-ok [] m q)
 -- nothing is told where the answer is that it ran out, and there is no other failure
 abbrev pub Quiet : Ans → Type 0
 Quiet (ok p R m) = Unit {0}
-Quiet (past p R m) = Unit {0}
-Quiet (stop w p R m) = (w ≡ out) × (R ≡ [])
+Quiet (past lacked p R m) = Unit {0}
+Quiet (stop (out lacked) p R m) = R ≡ []
+Quiet (stop bad p R m) = ⊥
+Quiet (stop lack p R m) = ⊥
+Quiet (stop (quit o j l) p R m) = ⊥
 
 pub grows-quiet : {s : List ℕ} {c d : Cursor} {R : List Rec} (k : ℕ → ℕ → Ans) → Quiet (k (c .end) (c .at)) → Reads k s c d R → Grows k s c d (cond (eqb (d .why) 0) R [])
 unfolding soFar then glue
@@ -120,9 +123,14 @@ grows-quiet {s} {c} {d} {R} k h r = record { grew = λ i. go i (r .led i) }
     go : Inside s c → Led k c d R → Grew k s c d (cond (eqb (d .why) 0) R [])
     go i (stayed n q) = rw (q, ne-eqb (c .why) 0 n) record { inside = i; window = refl; gives = λ Q. rw (ne-eqb (c .why) 0 n, append-nil Q) }
     go i (went p m z a l q) = rw q record { inside = (l, i .1); window = refl; gives = λ Q. rw (eq-eqb (c .why) 0 z, a) }
-    go i (failed w p m S n z a l q) =
-        let y : (w ≡ out) × (S ≡ []) = rw a at h in
-        rw (q, y .0) record { inside = (l, i .1); window = refl; gives = λ Q. rw (eq-eqb (c .why) 0 z, a, y .0, y .1) }
+    go i (failed (out lacked) p m S n z a l q) =
+        let y : S ≡ [] = rw a at h in
+        let u : eqb (number (out lacked)) 0 ≡ false = ne-eqb (number (out lacked)) 0 n in
+        let v : number (out lacked) / 16 ≡ lacked = omega arith in
+        rw q record { inside = (l, i .1); window = refl; gives = λ Q. rw (eq-eqb (c .why) 0 z, a, y, u, v) }
+    go i (failed bad p m S n z a l q) = absurd (rw a at h)
+    go i (failed lack p m S n z a l q) = absurd (rw a at h)
+    go i (failed (quit o j v) p m S n z a l q) = absurd (n refl)
 
 ---------------------------------------------------------------- behind a number
 
@@ -130,7 +138,11 @@ module _ {s : List ℕ} {c : Cursor} (n : ℕ) (g : Got) (k : ℕ → ℕ → �
   pub pulled-step : (Q : List Rec) → Pulled s c n g → then (soFar c Q) (λ p. Behind s n k (c .end) p) ≡ then (soFar (g .c) Q) (λ p. k (g .v) (g .c .end) p)
   unfolding soFar then glue
   pulled-step Q (stuck h q) = rw (q, ne-eqb (c .why) 0 h)
-  pulled-step Q (short z l q) = rw (q, eq-eqb (c .why) 0 z, pull-no (bitOf s) (c .end) (c .at) n (λ v. k v (c .end) (c .at + n)) l, append-nil Q, or-nil (c .marks))
+  pulled-step Q (short z l q) =
+      let o : ℕ = c .at + n - c .end in
+      let u : eqb (number (out o)) 0 ≡ false = ne-eqb (number (out o)) 0 (λ x. omega arith) in
+      let v : number (out o) / 16 ≡ o = omega arith in
+      rw (q, eq-eqb (c .why) 0 z, pull-no (bitOf s) (c .end) (c .at) n (λ v. k v (c .end) (c .at + n)) l, append-nil Q, or-nil (c .marks), u, v)
   pulled-step Q (got z l v q) = rw (q, eq-eqb (c .why) 0 z, pull-go (bitOf s) (c .end) (c .at) n (λ v. k v (c .end) (c .at + n)) l, v)
 
   pub pulled-inside : Inside s c → Pulled s c n g → Inside s (g .c) × (g .c .end ≡ c .end)

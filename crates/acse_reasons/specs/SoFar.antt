@@ -2,7 +2,7 @@
 use mathlib.Core.Path.{_≡_}
 use mathlib.Core.Bool.{cond}
 use mathlib.Core.List.{List, _++_}
-use Prim.Native.Nat.{ℕ}
+use Prim.Native.Nat.{ℕ, _/_}
 use lib.Dec.{eqb}
 use Rattle.x691.specs.Bits.{bitOf}
 use Rattle.atn.specs.Format.{Fmt, out}
@@ -10,9 +10,9 @@ use Rattle.atn.specs.Reading.{Rec, Ans, ok, stop, then, read}
 use Rattle.cursor.specs.declared.place.Cursor.{Cursor}
 use Rattle.cursor.specs.Place.{Inside}
 
--- the answer so far, at the cursor and with these records
+-- the answer so far, at the cursor and with these records; the cursor has 16 times the bits lacked
 unfoldable pub soFar : Cursor → List Rec → Ans
-soFar c R = cond (eqb (c .why) 0) (ok (c .at) R (c .marks)) (stop out (c .at) R (c .marks))
+soFar c R = cond (eqb (c .why) 0) (ok (c .at) R (c .marks)) (stop (out (c .why / 16)) (c .at) R (c .marks))
 
 -- the reading k, a function of the window's end and the place, led from the cursor c to the cursor d and told R
 pub record Grew (k : ℕ → ℕ → Ans) (s : List ℕ) (c d : Cursor) (R : List Rec) : Type 0 where

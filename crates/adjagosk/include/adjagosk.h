@@ -22,7 +22,8 @@ struct adjagosk_numbers {
     uint64_t marks;   /* the sum of 2^(mark - 1) over the marks 1 to 7 */
     size_t records;   /* each has four words, at the front: tag, element, value, second number; words behind them stay */
     size_t need;      /* behind 7: the words needed */
-}; /* behind a refusal all but `refused`, `reach` and `need` is 0, and the words stay */
+    size_t lacked;    /* behind 4: the bits that the first read past the end lacked */
+}; /* behind a refusal all but `refused`, `reach`, `need` and `lacked` is 0, and the words stay */
 
 /* CPDLC, direction unknown. A table has one byte for each element index; docs/TAGS.md says what it stands for. */
 struct adjagosk_numbers adjagosk_apdu(const uint8_t *frame, size_t frame_length,

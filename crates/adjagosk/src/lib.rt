@@ -11,7 +11,7 @@ use cpdlc::parse_pdus;
 
 pub mod writing; // writing.rt: the writer of fixture frames
 
-// An answer in numbers. `refused` is 0, or document 01's number. Behind a refusal all but the reach and, for 7, the words needed is 0.
+// An answer in numbers. `refused` is 0, or document 01's number. Behind a refusal all but the reach and, for 7, the words needed, and for 4 the bits lacked, is 0.
 #[repr(C)]
 pub struct Numbers {
     pub refused: u64,
@@ -20,6 +20,7 @@ pub struct Numbers {
     pub marks: u64,
     pub records: usize,
     pub need: usize,
+    pub lacked: usize,
 }
 
 #[no_mangle]
@@ -76,11 +77,13 @@ fn in_numbers(a: Answer) -> Numbers
             marks: marks,
             records: count,
             need: 0,
+            lacked: 0,
         },
         Answer::Refused {
             number,
             reach,
             need,
+            lacked,
         } => Numbers {
             refused: number,
             cut: false,
@@ -88,6 +91,7 @@ fn in_numbers(a: Answer) -> Numbers
             marks: 0,
             records: 0,
             need: need,
+            lacked: lacked,
         },
     }
 }

@@ -6,7 +6,7 @@ use lib.ListN.{length}
 use borrow.Author.Tests.{le-leb, lt-leb}
 use Rattle.atn.specs.Entries.{Reply, Outcome, refused, Test, frame-fits, decide, enter, settle}
 
-pub enter-long : (ts : List Test) (f : List ℕ → Reply) (s w : List ℕ) → 8192 < length s → _≡_ {A = Outcome} (refused 1 0 0, w) (enter ts f s w)
+pub enter-long : (ts : List Test) (f : List ℕ → Reply) (s w : List ℕ) → 8192 < length s → _≡_ {A = Outcome} (refused 1 0 0 0, w) (enter ts f s w)
 unfolding enter decide frame-fits
 enter-long ts f s w h = rw (lt-leb (length s) 8192 h)
 

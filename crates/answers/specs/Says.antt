@@ -9,7 +9,7 @@ use Rattle.answers.specs.declared.Answer.the-variants.{Accepted, Refused
 
 abbrev pub answerOf : Answer → entries.Answer
 answerOf (Accepted c p m k) = accepted c p m k
-answerOf (Refused n p k) = refused n p k
+answerOf (Refused n p k l) = refused n p k l
 
 -- the answer r and the words w′ are those of the outcome
 pub record Says (r : Answer) (w′ : List ℕ) (o : Outcome) : Type 0 where

@@ -1,6 +1,6 @@
 // What an entry answers.
 
-// Accepted: whether the frame ended where the reading carried on without the missing part, the reach, the set of marks and the number of records. Refused: document 01's number, the reach, and the words needed, which only 7 has.
+// Accepted: whether the frame ended where the reading carried on without the missing part, the reach, the set of marks and the number of records. Refused: document 01's number, the reach, the words needed, which only 7 has, and the bits lacked, which only 4 has.
 pub enum Answer {
     Accepted {
         cut: bool,
@@ -12,5 +12,6 @@ pub enum Answer {
         number: u64,
         reach: usize,
         need: usize,
+        lacked: usize,
     },
 }

@@ -46,6 +46,7 @@ fn say(gathered: &mut [u8], output: Output, a: Answer) -> Output
             number,
             reach,
             need: _,
+            lacked: _,
         } => refused(gathered, output, number, reach),
     }
 }

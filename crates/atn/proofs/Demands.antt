@@ -23,6 +23,7 @@ use Rattle.atn.proofs.Complete.{complete}
 use Rattle.atn.proofs.Sound.{Found, FoundF, sound}
 use Rattle.atn.proofs.SameBits.{Agree, agree-le}
 use Rattle.atn.proofs.Readings.{replyReach, closed, Keeps, format-keeps}
+use Rattle.atn.proofs.Longer.{Longer, GoesOn}
 use Rattle.atn.proofs.Outcomes.{passes, early, Settled, NoRoom, Refused, settle-fits, settle-full, settle-refused, decide-go, decide-accepted, decide-kept, decide-refused}
 
 ---------------------------------------------------------------- what the demands speak of
@@ -46,12 +47,12 @@ pub record Shares (s t w v : List ℕ) (p : ℕ) : Type 0 where
 -- an answer that says that the frame ended: cut, or ran out
 pub data CutOrOut : Outcome → Type 0 where
   cut : (p m k : ℕ) (w : List ℕ) → CutOrOut (accepted true p m k, w)
-  ended : (p : ℕ) (w : List ℕ) → CutOrOut (refused 4 p 0, w)
+  ended : (p l : ℕ) (w : List ℕ) → CutOrOut (refused 4 p 0 l, w)
 
 -- the words hold the records, if the reading is accepted
 abbrev pub Enough : Reply → List ℕ → Type 0
 Enough (accept c p m R) w = need R ≤ length w
-Enough (ranOut p) w = Unit {0}
+Enough (ranOut p l) w = Unit {0}
 Enough (badly p) w = Unit {0}
 Enough (unsupplied p) w = Unit {0}
 
@@ -60,11 +61,11 @@ Enough (unsupplied p) w = Unit {0}
 clean-ok : (a : Ans) {p : ℕ} {R : List Rec} → reply a ≡ accept false p 0 R → a ≡ ok p R 0
 unfolding reply stopped
 clean-ok (ok q S n) h = cc
-clean-ok (past q S n) h = let z : true ≡ false = cc in let y : _≡_ {A = ℕ} 0 1 = cc in absurd (omega arith)
+clean-ok (past k q S n) h = let z : true ≡ false = cc in let y : _≡_ {A = ℕ} 0 1 = cc in absurd (omega arith)
 clean-ok (stop w q S n) {p} {R} h = go w h
   where
     go : (w : Why) → stopped w q S n ≡ accept false p 0 R → stop w q S n ≡ ok p R 0
-    go out e = let y : _≡_ {A = ℕ} 0 1 = cc in absurd (omega arith)
+    go (out l) e = let y : _≡_ {A = ℕ} 0 1 = cc in absurd (omega arith)
     go bad e = let y : _≡_ {A = ℕ} 0 1 = cc in absurd (omega arith)
     go lack e = let y : _≡_ {A = ℕ} 0 1 = cc in absurd (omega arith)
     go (quit o j k) e = let y : or (mark k) n ≡ 0 = cc in mark-pos k (nil-fst (mark k) n y)
@@ -115,21 +116,21 @@ module _ (ts : List Test) (F : List ℕ → Reply) (keeps : Keeps F) where
       )
 
   -- and so does a badly formed refusal
-  pub bad-again : (s t w v : List ℕ) {p k : ℕ} {w′ : List ℕ} → early ts ≡ true → enter ts F s w ≡ (refused 5 p k, w′) → Shares s t w v p → enter ts F t v ≡ (refused 5 p k, v)
+  pub bad-again : (s t w v : List ℕ) {p k l : ℕ} {w′ : List ℕ} → early ts ≡ true → enter ts F s w ≡ (refused 5 p k l, w′) → Shares s t w v p → enter ts F t v ≡ (refused 5 p k l, v)
   unfolding enter closed replyReach passes early settle
-  bad-again s t w v {p} {k} e h g =
+  bad-again s t w v {p} {k} {l} e h g =
       let x = decide-refused (test (frame-fits s) 1 ∷ ts) (F s) w h .late e (omega arith) in
       let y = both (frame-fits s) (passes ts) (x .0) in
       let z = settle-refused (F s) w (x .1) .3 refl in
       let i : F s ≡ badly p = z .0 in
       let j : F t ≡ F s = keeps .again s t (rw i) (rw i (g .bits)) (rw i (g .there)) in
-      entered t v (g .limit) (y .1) ∙ rw (j, i, z .1)
+      entered t v (g .limit) (y .1) ∙ rw (j, i, z .1, z .2)
 
   open-outcome : (r : Reply) (w : List ℕ) → closed r ≡ false → Enough r w → CutOrOut (settle r w)
   unfolding closed settle
   open-outcome (accept true p m R) w h g = rw (le-leb (need R) (length w) g) (cut p m (length R) (flat R ++ drop (need R) w))
   open-outcome (accept false p m R) w h g = let y : _≡_ {A = ℕ} 0 1 = cc in absurd (omega arith)
-  open-outcome (ranOut p) w h g = ended p w
+  open-outcome (ranOut p l) w h g = ended p l w
   open-outcome (badly p) w h g = let y : _≡_ {A = ℕ} 0 1 = cc in absurd (omega arith)
   open-outcome (unsupplied p) w h g = let y : _≡_ {A = ℕ} 0 1 = cc in absurd (omega arith)
 
@@ -153,19 +154,19 @@ module _ (ts : List Test) (F : List ℕ → Reply) (keeps : Keeps F) where
   words-kept s w = decide-kept (test (frame-fits s) 1 ∷ ts) (F s) w
 
   -- a refusal leaves the lent words
-  pub words-left : (s w : List ℕ) {n p k : ℕ} {w′ : List ℕ} → enter ts F s w ≡ (refused n p k, w′) → w′ ≡ w
+  pub words-left : (s w : List ℕ) {n p k l : ℕ} {w′ : List ℕ} → enter ts F s w ≡ (refused n p k l, w′) → w′ ≡ w
   unfolding enter
   words-left s w h = decide-refused (test (frame-fits s) 1 ∷ ts) (F s) w h .left
 
   -- no room is said exactly where an accepted reading's records do not fit
-  pub room-refused : (s w : List ℕ) {p k : ℕ} {w′ : List ℕ} → early ts ≡ true → enter ts F s w ≡ (refused 7 p k, w′) → (frame-fits s ≡ true) × (passes ts ≡ true) × NoRoom (F s) w p k w′
+  pub room-refused : (s w : List ℕ) {p k l : ℕ} {w′ : List ℕ} → early ts ≡ true → enter ts F s w ≡ (refused 7 p k l, w′) → (frame-fits s ≡ true) × (passes ts ≡ true) × NoRoom (F s) w p k w′
   unfolding enter passes early
   room-refused s w e h =
       let x = decide-refused (test (frame-fits s) 1 ∷ ts) (F s) w h .late e (omega arith) in
       let y = both (frame-fits s) (passes ts) (x .0) in
       (y .0, y .1, settle-refused (F s) w (x .1) .2 refl)
 
-  pub refused-room : (s w : List ℕ) (c : Bool) (p m : ℕ) (R : List Rec) → frame-fits s ≡ true → passes ts ≡ true → F s ≡ accept c p m R → length w < need R → enter ts F s w ≡ (refused 7 p (need R), w)
+  pub refused-room : (s w : List ℕ) (c : Bool) (p m : ℕ) (R : List Rec) → frame-fits s ≡ true → passes ts ≡ true → F s ≡ accept c p m R → length w < need R → enter ts F s w ≡ (refused 7 p (need R) 0, w)
   refused-room s w c p m R h g i l = entered s w h g ∙ rw i (settle-full c p m R w l)
 
   -- the reach never exceeds the frame's bits
@@ -173,9 +174,31 @@ module _ (ts : List Test) (F : List ℕ → Reply) (keeps : Keeps F) where
   unfolding replyReach
   reach-inside s w h = let y = taken s w h .2 in rw (y .replied) at (keeps .inside s)
 
-  pub refused-inside : (s w : List ℕ) {n p k : ℕ} {w′ : List ℕ} → enter ts F s w ≡ (refused n p k, w′) → p ≤ length s * 8
+  pub refused-inside : (s w : List ℕ) {n p k l : ℕ} {w′ : List ℕ} → enter ts F s w ≡ (refused n p k l, w′) → p ≤ length s * 8
   unfolding enter
   refused-inside s w h = elim (decide-refused (test (frame-fits s) 1 ∷ ts) (F s) w h .reached) [ inl x ↦ omega arith | inr x ↦ omega (arith, keeps .inside s) ]
+
+  -- only "ran out" has bits that were lacked
+  pub lacked-none : (s w : List ℕ) {n p k l : ℕ} {w′ : List ℕ} → enter ts F s w ≡ (refused n p k l, w′) → (n ≡ 4 → ⊥) → l ≡ 0
+  unfolding enter
+  lacked-none s w h = decide-refused (test (frame-fits s) 1 ∷ ts) (F s) w h .idle
+
+  -- "ran out", taken back to the reading
+  ran : (s w : List ℕ) {p k l : ℕ} {w′ : List ℕ} → early ts ≡ true → enter ts F s w ≡ (refused 4 p k l, w′) → F s ≡ ranOut p l
+  unfolding enter early
+  ran s w e h =
+      let x = decide-refused (test (frame-fits s) 1 ∷ ts) (F s) w h .late e (omega arith) in
+      settle-refused (F s) w (x .1) .4 refl
+
+  module _ (goes : GoesOn F) (e : early ts ≡ true) where
+    pub lacked-some : (s w : List ℕ) {p k l : ℕ} {w′ : List ℕ} → enter ts F s w ≡ (refused 4 p k l, w′) → 1 ≤ l
+    lacked-some s w h = goes .some s (ran s w e h)
+
+    -- "a frame longer by at least that many bits no longer stops at that same read": where it runs out again, it has taken the bits that were lacked, and so reaches further
+    pub longer-on : (s t w v : List ℕ) {p k l q j i : ℕ} {w′ v′ : List ℕ} → enter ts F s w ≡ (refused 4 p k l, w′) → Longer s t l → enter ts F t v ≡ (refused 4 q j i, v′) → (length s * 8 + l ≤ q) × (p < q)
+    longer-on s t w v h g o =
+        let z = goes .on s t (ran s w e h) g (ran t v e o) in
+        (z, omega (arith, lacked-some s w h, refused-inside s w h))
 
 ---------------------------------------------------------------- of an entry that reads by one format
 

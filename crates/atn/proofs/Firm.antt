@@ -10,14 +10,14 @@ use Rattle.atn.proofs.Tame.{Kind, keepsStop, tame, tameFields, tameChoi
 
 unfoldable pub isPast : Ans → Bool
 isPast (ok p R m) = false
-isPast (past p R m) = true
+isPast (past k p R m) = true
 isPast (stop w p R m) = false
 
 abbrev pub Firm : Ans → Type 0
 Firm a = isPast a ≡ false
 
 abbrev firmly : Kind
-firmly = record { looses = false; softs = false; laxes = true; quits = true }
+firmly = record { looses = false; softs = false; laxes = true; quits = true; outs = true }
 
 abbrev pub firm : Fmt → Bool
 firm f = tame firmly f
@@ -33,20 +33,20 @@ never h = let z : _≡_ {A = ℕ} 0 1 = cc in absurd (omega arith)
 firm-glue : (R : List Rec) (m : ℕ) (a : Ans) → Firm a → Firm (glue R m a)
 unfolding isPast glue
 firm-glue R m (ok p S n) h = refl
-firm-glue R m (past p S n) h = h
+firm-glue R m (past k p S n) h = h
 firm-glue R m (stop w p S n) h = refl
 
 firm-then : (a : Ans) (k : ℕ → Ans) → Firm a → ((q : ℕ) → Firm (k q)) → Firm (then a k)
 unfolding isPast then
 firm-then (ok p R m) k h g = firm-glue R m (k p) (g p)
-firm-then (past p R m) k h g = let z : _≡_ {A = ℕ} 0 1 = cc in absurd (omega arith)
+firm-then (past l p R m) k h g = let z : _≡_ {A = ℕ} 0 1 = cc in absurd (omega arith)
 firm-then (stop w p R m) k h g = refl
 
 firm-close : (q : ℕ) (a : Ans) → Firm (close q a)
 unfolding isPast close shut
 firm-close q (ok p R m) = refl
-firm-close q (past p R m) = refl
-firm-close q (stop out p R m) = refl
+firm-close q (past k p R m) = refl
+firm-close q (stop (out l) p R m) = refl
 firm-close q (stop bad p R m) = refl
 firm-close q (stop lack p R m) = refl
 firm-close q (stop (quit o true k) p R m) = refl
@@ -55,8 +55,8 @@ firm-close q (stop (quit o false k) p R m) = refl
 firm-lax : (k : ℕ) (j : Bool) (a : Ans) → Firm a → Firm (laxly k j a)
 unfolding isPast laxly giveUp
 firm-lax k j (ok p R m) h = refl
-firm-lax k j (past p R m) h = h
-firm-lax k j (stop out p R m) h = refl
+firm-lax k j (past l p R m) h = h
+firm-lax k j (stop (out l) p R m) h = refl
 firm-lax k j (stop bad p R m) h = refl
 firm-lax k j (stop lack p R m) h = refl
 firm-lax k j (stop (quit o i l) p R m) h = refl
@@ -67,6 +67,7 @@ keeps-firm =
     record {
       keeps-ok = λ p R m. refl;
       keeps-stop = λ w p R m h. refl;
+      keeps-out = λ n p R m. refl;
       keeps-then = firm-then;
       keeps-close = firm-close;
       keeps-late = λ h. never h;

@@ -53,14 +53,14 @@ over-inv d v h = leb-true v d (unless-inv (leb v d) 1 h)
 pub never : {A : Type 0} {w : Why} {p q : ℕ} {R S : List Rec} {m n : ℕ} → stop w q S n ≡ ok p R m → A
 never h = let z : _≡_ {A = ℕ} 0 1 = cc in absurd (omega arith)
 
-pub never-past : {A : Type 0} {p q : ℕ} {R S : List Rec} {m n : ℕ} → past q S n ≡ ok p R m → A
+pub never-past : {A : Type 0} {k p q : ℕ} {R S : List Rec} {m n : ℕ} → past k q S n ≡ ok p R m → A
 never-past h = let z : _≡_ {A = ℕ} 0 1 = cc in absurd (omega arith)
 
-pub never-late : {A : Type 0} (S : List Rec) (n : ℕ) (a : Ans) {p : ℕ} {R : List Rec} {m : ℕ} → late S n a ≡ ok p R m → A
+pub never-late : {A : Type 0} (k : ℕ) (S : List Rec) (n : ℕ) (a : Ans) {p : ℕ} {R : List Rec} {m : ℕ} → late k S n a ≡ ok p R m → A
 unfolding late
-never-late S n (ok q U l) h = never-past h
-never-late S n (past q U l) h = never-past h
-never-late S n (stop w q U l) h = never h
+never-late k S n (ok q U l) h = never-past h
+never-late k S n (past j q U l) h = never-past h
+never-late k S n (stop w q U l) h = never h
 
 never-set : {A : Type 0} (m l : ℕ) {p q : ℕ} {R S : List Rec} → ok q S (or (mark m) l) ≡ ok p R 0 → A
 never-set m l h = let z : or (mark m) l ≡ 0 = cc in mark-pos m (nil-fst (mark m) l z)
@@ -84,13 +84,13 @@ unfolding glue
 glue-inv a (ok p′ S′ n′) q S n k {p} {R} x y h =
     let j : or n n′ ≡ 0 = cc in
     record { mid = q; R₁ = S; R₂ = S′; first = x ∙ ap (ok q S) (nil-fst n n′ j); second = y ∙ (let j₂ = nil-snd n n′ j in cc); recs = cc }
-glue-inv a (past p′ S′ n′) q S n k x y h = never-past h
+glue-inv a (past l p′ S′ n′) q S n k x y h = never-past h
 glue-inv a (stop w p′ S′ n′) q S n k x y h = never h
 
 pub then-inv : (a : Ans) (k : ℕ → Ans) {p : ℕ} {R : List Rec} → then a k ≡ ok p R 0 → Two a k p R
 unfolding then
 then-inv (ok q S n) k h = glue-inv (ok q S n) (k q) q S n k refl refl h
-then-inv (past q S n) k h = never-late S n (k q) h
+then-inv (past l q S n) k h = never-late l S n (k q) h
 then-inv (stop w q S n) k h = never h
 
 pub never-after : {A : Type 0} (m q : ℕ) (S : List Rec) (k : ℕ → Ans) {p : ℕ} {R : List Rec} → then (ok q S (mark m)) k ≡ ok p R 0 → A
@@ -125,11 +125,11 @@ close-inv q (ok p′ R′ m′) {p} {R} h =
     let m : m′ ≡ 0 = nil-fst m′ c j in
     let x : p′ ≡ q = eqb-true p′ q (unless-inv (eqb p′ q) 6 (nil-snd m′ c j)) in
     (cc, cc)
-close-inv q (past p′ R′ m′) h = never-set 7 _ h
+close-inv q (past k p′ R′ m′) h = never-set 7 _ h
 close-inv q (stop w p′ R′ m′) h = go w h
   where
     go : {A : Type 0} {p : ℕ} {R : List Rec} (w : Why) → shut w q p′ R′ m′ ≡ ok p R 0 → A
-    go out h′ = never h′
+    go (out k) h′ = never h′
     go bad h′ = never h′
     go lack h′ = never h′
     go (quit o false k) h′ = never-set k _ h′
@@ -138,11 +138,11 @@ close-inv q (stop w p′ R′ m′) h = go w h
 pub soft-inv : (m : ℕ) (r : Bool) (a : Ans) {p : ℕ} {R : List Rec} → softly m r a ≡ ok p R 0 → a ≡ ok p R 0
 unfolding softly passOver
 soft-inv m r (ok p′ R′ l) h = h
-soft-inv m r (past p′ R′ l) h = never-past h
+soft-inv m r (past k p′ R′ l) h = never-past h
 soft-inv m r (stop w p′ R′ l) h = go w h
   where
     go : {A : Type 0} {p : ℕ} {R : List Rec} (w : Why) → passOver w m r p′ R′ l ≡ ok p R 0 → A
-    go out h′ = never-past h′
+    go (out k) h′ = never-past h′
     go bad h′ = never-set m _ h′
     go lack h′ = never h′
     go (quit o i k) h′ = never h′
@@ -150,11 +150,11 @@ soft-inv m r (stop w p′ R′ l) h = go w h
 pub lax-inv : (m : ℕ) (j : Bool) (a : Ans) {p : ℕ} {R : List Rec} → laxly m j a ≡ ok p R 0 → a ≡ ok p R 0
 unfolding laxly giveUp
 lax-inv m j (ok p′ R′ l) h = h
-lax-inv m j (past p′ R′ l) h = never-past h
+lax-inv m j (past k p′ R′ l) h = never-past h
 lax-inv m j (stop w p′ R′ l) h = go w h
   where
     go : {A : Type 0} {p : ℕ} {R : List Rec} (w : Why) → giveUp w m j p′ R′ l ≡ ok p R 0 → A
-    go out h′ = never h′
+    go (out k) h′ = never h′
     go bad h′ = never h′
     go lack h′ = never h′
     go (quit o i k) h′ = never h′
@@ -172,7 +172,7 @@ module _ (b : ℕ → ℕ) (e : ℕ) where
 
   pub pull-inv : (at n : ℕ) (k : ℕ → Ans) {p : ℕ} {R : List Rec} {m : ℕ} → pull b e at n k ≡ ok p R m → (at + n ≤ e) × (k (uint b at n) ≡ ok p R m)
   unfolding pull
-  pull-inv at n k h = fetch-inv at n k (stop out at [] 0) (λ q. never q) h
+  pull-inv at n k h = fetch-inv at n k (stop (out (at + n - e)) at [] 0) (λ q. never q) h
 
   -- a size within its range, and what follows it
   pub sized-inv : (at lo hi : ℕ) (k : ℕ → ℕ → Ans) {p : ℕ} {R : List Rec} → sized b e at lo hi k ≡ ok p R 0

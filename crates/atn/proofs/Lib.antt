@@ -17,3 +17,5 @@ pub mod Tame
 pub mod Firm
 pub mod Calm
 pub mod Elements
+pub mod Lacked
+pub mod Longer

@@ -18,19 +18,19 @@ use Rattle.atn.proofs.Steps.{fetch-go, fetch-no}
 
 unfoldable pub reach : Ans → ℕ
 reach (ok p R m) = p
-reach (past p R m) = p
+reach (past k p R m) = p
 reach (stop w p R m) = p
 
 -- an answer that more bits may change: it ran out, or it passed the window's end
 unfoldable pub opens : Why → Bool
-opens out = true
+opens (out k) = true
 opens bad = false
 opens lack = false
 opens (quit o j m) = o
 
 unfoldable pub isOpen : Ans → Bool
 isOpen (ok p R m) = false
-isOpen (past p R m) = true
+isOpen (past k p R m) = true
 isOpen (stop w p R m) = opens w
 
 -- which of the two it is
@@ -46,26 +46,26 @@ split {C} a b f g = go (leb a b) refl
 pub glue-is : (R : List Rec) (m : ℕ) (a : Ans) → (reach (glue R m a) ≡ reach a) × (isOpen (glue R m a) ≡ isOpen a)
 unfolding glue reach isOpen
 glue-is R m (ok p S n) = (refl, refl)
-glue-is R m (past p S n) = (refl, refl)
+glue-is R m (past k p S n) = (refl, refl)
 glue-is R m (stop w p S n) = (refl, refl)
 
-opens-tardy : (w : Why) → opens (tardy w) ≡ true
+opens-tardy : (k : ℕ) (w : Why) → opens (tardy k w) ≡ true
 unfolding opens tardy
-opens-tardy out = refl
-opens-tardy bad = refl
-opens-tardy lack = refl
-opens-tardy (quit o j m) = refl
+opens-tardy k (out l) = refl
+opens-tardy k bad = refl
+opens-tardy k lack = refl
+opens-tardy k (quit o j m) = refl
 
 -- behind the window's end every answer is open
-pub late-is : (R : List Rec) (m : ℕ) (a : Ans) → (reach (late R m a) ≡ reach a) × (isOpen (late R m a) ≡ true)
+pub late-is : (k : ℕ) (R : List Rec) (m : ℕ) (a : Ans) → (reach (late k R m a) ≡ reach a) × (isOpen (late k R m a) ≡ true)
 unfolding late reach isOpen
-late-is R m (ok p S n) = (refl, refl)
-late-is R m (past p S n) = (refl, refl)
-late-is R m (stop w p S n) = (refl, opens-tardy w)
+late-is k R m (ok p S n) = (refl, refl)
+late-is k R m (past l p S n) = (refl, refl)
+late-is k R m (stop w p S n) = (refl, opens-tardy k w)
 
 pass-is : (w : Why) (k : ℕ) (r : Bool) (p : ℕ) (R : List Rec) (m : ℕ) → (reach (passOver w k r p R m) ≡ p) × (isOpen (passOver w k r p R m) ≡ opens w)
 unfolding passOver reach isOpen opens
-pass-is out k r p R m = (refl, refl)
+pass-is (out l) k r p R m = (refl, refl)
 pass-is bad k r p R m = (refl, refl)
 pass-is lack k r p R m = (refl, refl)
 pass-is (quit o j l) k r p R m = (refl, refl)
@@ -73,12 +73,12 @@ pass-is (quit o j l) k r p R m = (refl, refl)
 pub soft-is : (k : ℕ) (r : Bool) (a : Ans) → (reach (softly k r a) ≡ reach a) × (isOpen (softly k r a) ≡ isOpen a)
 unfolding softly reach isOpen
 soft-is k r (ok p R m) = (refl, refl)
-soft-is k r (past p R m) = (refl, refl)
+soft-is k r (past l p R m) = (refl, refl)
 soft-is k r (stop w p R m) = pass-is w k r p R m
 
 give-is : (w : Why) (k : ℕ) (j : Bool) (p : ℕ) (R : List Rec) (m : ℕ) → (reach (giveUp w k j p R m) ≡ p) × (isOpen (giveUp w k j p R m) ≡ opens w)
 unfolding giveUp reach isOpen opens
-give-is out k j p R m = (refl, refl)
+give-is (out l) k j p R m = (refl, refl)
 give-is bad k j p R m = (refl, refl)
 give-is lack k j p R m = (refl, refl)
 give-is (quit o i l) k j p R m = (refl, refl)
@@ -86,12 +86,12 @@ give-is (quit o i l) k j p R m = (refl, refl)
 pub lax-is : (k : ℕ) (j : Bool) (a : Ans) → (reach (laxly k j a) ≡ reach a) × (isOpen (laxly k j a) ≡ isOpen a)
 unfolding laxly reach isOpen
 lax-is k j (ok p R m) = (refl, refl)
-lax-is k j (past p R m) = (refl, refl)
+lax-is k j (past l p R m) = (refl, refl)
 lax-is k j (stop w p R m) = give-is w k j p R m
 
 shut-is : (w : Why) (q p : ℕ) (R : List Rec) (m : ℕ) → reach (shut w q p R m) ≡ q
 unfolding shut reach
-shut-is out q p R m = refl
+shut-is (out l) q p R m = refl
 shut-is bad q p R m = refl
 shut-is lack q p R m = refl
 shut-is (quit o false k) q p R m = refl
@@ -101,7 +101,7 @@ shut-is (quit o true k) q p R m = refl
 pub close-is : (q : ℕ) (a : Ans) → reach (close q a) ≡ q
 unfolding close reach
 close-is q (ok p R m) = refl
-close-is q (past p R m) = refl
+close-is q (past k p R m) = refl
 close-is q (stop w p R m) = shut-is w q p R m
 
 ---------------------------------------------------------------- the reach does not fall
@@ -111,12 +111,12 @@ mono-fetch b e at n k z x h = split (at + n) e (λ l. rw (fetch-go b e at n k z 
 
 pub mono-pull : (b : ℕ → ℕ) (e at n : ℕ) (k : ℕ → Ans) → ((v : ℕ) → at + n ≤ reach (k v)) → at ≤ reach (pull b e at n k)
 unfolding reach pull
-mono-pull b e at n k h = mono-fetch b e at n k (stop out at [] 0) (omega arith) h
+mono-pull b e at n k h = mono-fetch b e at n k (stop (out (at + n - e)) at [] 0) (omega arith) h
 
 pub mono-then : (at : ℕ) (a : Ans) (k : ℕ → Ans) → at ≤ reach a → ((q : ℕ) → q ≤ reach (k q)) → at ≤ reach (then a k)
 unfolding then reach
 mono-then at (ok q R m) k h g = rw (glue-is R m (k q) .0) (omega (arith, g q))
-mono-then at (past q R m) k h g = rw (late-is R m (k q) .0) (omega (arith, g q))
+mono-then at (past l q R m) k h g = rw (late-is l R m (k q) .0) (omega (arith, g q))
 mono-then at (stop w q R m) k h g = h
 
 pub mono-times : (r : ℕ → ℕ → Ans) → ((i q : ℕ) → q ≤ reach (r i q)) → (i n at : ℕ) → at ≤ reach (times r i n at)
@@ -199,7 +199,7 @@ mutual
   mono b (ext f g) x e at = mono-pull b e at 1 _ λ y. mono-fork (at + 1) y _ _ (mono b f x e (at + 1)) (mono-then (at + 1) _ _ (omega arith) (λ p. mono b g x e p))
   mono b (seq fs) x e at = mono-fetch b e at (flags fs) _ _ (omega arith) λ _. mono-then (at + flags fs) _ _ (omega arith) (λ p. monoFields b fs x e at p)
   mono b (loose fs) x e at =
-      mono-fetch b e at (flags fs) _ _ (omega (arith, late-is [] (unreadMarks fs (within b e) at) (readFields fs x (within b e) e at (at + (e - at))) .0, monoFields (within b e) fs x e at (at + (e - at)))) λ _. mono-then (at + flags fs) _ _ (omega arith) (λ p. monoFields b fs x e at p)
+      mono-fetch b e at (flags fs) _ _ (omega (arith, late-is 1 [] (unreadMarks fs (within b e) at) (readFields fs x (within b e) e at (at + (e - at))) .0, monoFields (within b e) fs x e at (at + (e - at)))) λ _. mono-then (at + flags fs) _ _ (omega arith) (λ p. monoFields b fs x e at p)
   mono b (choice t fs) x e at = mono-pull b e at _ _ λ i. mono-then (at + width (highest (alternativesOf fs))) _ _ (omega arith) (λ q. monoChoice b fs i x e q)
   mono b (many lo hi f) x e at = mono-sized b e at lo hi _ λ k q. mono-times _ (λ i p. mono b f (x .0, i) e p) 1 k q
   mono b (inner f) x e at = mono-length b e at _ λ k q. mono-pull b e q k _ λ _. omega (arith, close-is (q + k) (read f x b (q + k) q))
@@ -225,12 +225,12 @@ in-fetch b e at n k z x h = split (at + n) e (λ l. rw (fetch-go b e at n k z l)
 
 in-pull : (b : ℕ → ℕ) (e at n : ℕ) (k : ℕ → Ans) → at ≤ e → ((v : ℕ) → at + n ≤ e → reach (k v) ≤ e) → reach (pull b e at n k) ≤ e
 unfolding reach pull
-in-pull b e at n k x h = in-fetch b e at n k (stop out at [] 0) x h
+in-pull b e at n k x h = in-fetch b e at n k (stop (out (at + n - e)) at [] 0) x h
 
 in-then : (e : ℕ) (a : Ans) (k : ℕ → Ans) → reach a ≤ e → ((q : ℕ) → q ≤ e → reach (k q) ≤ e) → reach (then a k) ≤ e
 unfolding then reach
 in-then e (ok q R m) k h g = rw (glue-is R m (k q) .0) (g q h)
-in-then e (past q R m) k h g = rw (late-is R m (k q) .0) (g q h)
+in-then e (past l q R m) k h g = rw (late-is l R m (k q) .0) (g q h)
 in-then e (stop w q R m) k h g = h
 
 in-times : (e : ℕ) (r : ℕ → ℕ → Ans) → ((i q : ℕ) → q ≤ e → reach (r i q) ≤ e) → (i n at : ℕ) → at ≤ e → reach (times r i n at) ≤ e
@@ -293,7 +293,7 @@ mutual
   in-window b (ext f g) x e at h = in-pull b e at 1 _ h λ y l. in-fork e y _ _ (in-window b f x e (at + 1) l) (in-then e _ _ l (λ p z. in-window b g x e p z))
   in-window b (seq fs) x e at h = in-fetch b e at (flags fs) _ _ (omega arith) λ _ l. in-then e _ _ l (λ p y. in-windowFields b fs x e at p y)
   in-window b (loose fs) x e at h =
-      in-fetch b e at (flags fs) _ _ (omega (arith, late-is [] (unreadMarks fs (within b e) at) (readFields fs x (within b e) e at (at + (e - at))) .0, in-windowFields (within b e) fs x e at (at + (e - at)) (omega arith))) λ _ l. in-then e _ _ l (λ p y. in-windowFields b fs x e at p y)
+      in-fetch b e at (flags fs) _ _ (omega (arith, late-is 1 [] (unreadMarks fs (within b e) at) (readFields fs x (within b e) e at (at + (e - at))) .0, in-windowFields (within b e) fs x e at (at + (e - at)) (omega arith))) λ _ l. in-then e _ _ l (λ p y. in-windowFields b fs x e at p y)
   in-window b (choice t fs) x e at h = in-pull b e at _ _ h λ i l. in-then e _ _ l (λ q y. in-windowChoice b fs i x e q y)
   in-window b (many lo hi f) x e at h = in-sized b e at lo hi _ h λ k q l. in-times e _ (λ i p y. in-window b f (x .0, i) e p y) 1 k q l
   in-window b (inner f) x e at h = in-length b e 8193 at _ h λ k q l. in-pull b e q k _ l λ _ y. omega (arith, close-is (q + k) (read f x b (q + k) q))

@@ -15,14 +15,14 @@ use Rattle.atn.proofs.Stable.{stable, cut-short}
 
 unfoldable pub replyReach : Reply → ℕ
 replyReach (accept c p m R) = p
-replyReach (ranOut p) = p
+replyReach (ranOut p k) = p
 replyReach (badly p) = p
 replyReach (unsupplied p) = p
 
 -- whole, badly formed or unsupplied: more bits change nothing
 unfoldable pub closed : Reply → Bool
 closed (accept c p m R) = not c
-closed (ranOut p) = false
+closed (ranOut p k) = false
 closed (badly p) = true
 closed (unsupplied p) = true
 
@@ -33,14 +33,14 @@ pub record Keeps (F : List ℕ → Reply) : Type 0 where
 
 ---------------------------------------------------------------- a format
 
-reply-is : (a : Ans) → (replyReach (reply a) ≡ reach a) × (closed (reply a) ≡ not (isOpen a))
+pub reply-is : (a : Ans) → (replyReach (reply a) ≡ reach a) × (closed (reply a) ≡ not (isOpen a))
 unfolding reply replyReach closed reach isOpen stopped opens
 reply-is (ok p R m) = (refl, refl)
-reply-is (past p R m) = (refl, refl)
+reply-is (past k p R m) = (refl, refl)
 reply-is (stop w p R m) = go w
   where
     go : (w : Why) → (replyReach (stopped w p R m) ≡ p) × (closed (stopped w p R m) ≡ not (opens w))
-    go out = (refl, refl)
+    go (out k) = (refl, refl)
     go bad = (refl, refl)
     go lack = (refl, refl)
     go (quit o j k) = (refl, refl)
@@ -67,17 +67,17 @@ format-keeps f =
 
 ---------------------------------------------------------------- two readings combined
 
-out-is : (p : ℕ) (u : Reply) → (replyReach (afterOut p u) ≡ max p (replyReach u)) × (closed (afterOut p u) ≡ false)
+pub out-is : (p k : ℕ) (u : Reply) → (replyReach (afterOut p k u) ≡ max p (replyReach u)) × (closed (afterOut p k u) ≡ false)
 unfolding afterOut replyReach closed
-out-is p (accept c q m R) = (refl, refl)
-out-is p (ranOut q) = (refl, refl)
-out-is p (badly q) = (refl, refl)
-out-is p (unsupplied q) = (refl, refl)
+out-is p k (accept c q m R) = (refl, refl)
+out-is p k (ranOut q l) = (refl, refl)
+out-is p k (badly q) = (refl, refl)
+out-is p k (unsupplied q) = (refl, refl)
 
-bad-is : (p : ℕ) (u : Reply) → (replyReach (afterBad p u) ≡ max p (replyReach u)) × (closed (afterBad p u) ≡ closed u)
+pub bad-is : (p : ℕ) (u : Reply) → (replyReach (afterBad p u) ≡ max p (replyReach u)) × (closed (afterBad p u) ≡ closed u)
 unfolding afterBad replyReach closed
 bad-is p (accept c q m R) = (refl, refl)
-bad-is p (ranOut q) = (refl, refl)
+bad-is p (ranOut q l) = (refl, refl)
 bad-is p (badly q) = (refl, refl)
 bad-is p (unsupplied q) = (refl, refl)
 
@@ -85,7 +85,7 @@ bad-is p (unsupplied q) = (refl, refl)
 open-first : (d u : Reply) → closed d ≡ false → closed (orElse d u) ≡ false
 unfolding orElse closed
 open-first (accept c p m R) u h = h
-open-first (ranOut p) u h = out-is p u .1
+open-first (ranOut p k) u h = out-is p k u .1
 open-first (badly p) u h = let z : _≡_ {A = ℕ} 0 1 = cc in absurd (omega arith)
 open-first (unsupplied p) u h = h
 
@@ -105,7 +105,7 @@ module _ (D U : List ℕ → Reply) (kd : Keeps D) (ku : Keeps U) where
       let y : D t ≡ D s = kd .again s t (rw x refl) (rw x (agree-le a (omega arith))) (rw x (omega arith)) in
       let z : U t ≡ U s = ku .again s t (sym (i .1) ∙ q) (agree-le a (omega arith)) (omega arith) in
       rw (y, x, z)
-  both-again s t (ranOut p) x q a l = let z : true ≡ false = sym q ∙ out-is p (U s) .1 in let y : _≡_ {A = ℕ} 0 1 = cc in absurd (omega arith)
+  both-again s t (ranOut p k) x q a l = let z : true ≡ false = sym q ∙ out-is p k (U s) .1 in let y : _≡_ {A = ℕ} 0 1 = cc in absurd (omega arith)
 
   both-short : (s t : List ℕ) (d : Reply) → D s ≡ d → closed (orElse d (U s)) ≡ true → length t * 8 < replyReach (orElse d (U s)) → Agree (bitOf s) (bitOf t) (length t * 8) → closed (orElse (D t) (U t)) ≡ false
   unfolding orElse closed replyReach
@@ -119,14 +119,14 @@ module _ (D U : List ℕ → Reply) (kd : Keeps D) (ku : Keeps U) where
       let y : D t ≡ badly p = kd .again s t (rw x refl) (rw x (agree-le a h)) (rw x h) ∙ x in
       rw y (bad-is p (U t) .1 ∙ ku .short s t (sym (i .1) ∙ q) (omega arith) a))
       (λ h. open-first (D t) (U t) (kd .short s t (rw x refl) (rw x h) a))
-  both-short s t (ranOut p) x q l a = let z : true ≡ false = sym q ∙ out-is p (U s) .1 in let y : _≡_ {A = ℕ} 0 1 = cc in absurd (omega arith)
+  both-short s t (ranOut p k) x q l a = let z : true ≡ false = sym q ∙ out-is p k (U s) .1 in let y : _≡_ {A = ℕ} 0 1 = cc in absurd (omega arith)
 
   both-inside : (s : List ℕ) (d : Reply) → D s ≡ d → replyReach (orElse d (U s)) ≤ length s * 8
   unfolding orElse replyReach
   both-inside s (accept c p m R) x = (let y = kd .inside s in rw x at y)
   both-inside s (unsupplied p) x = (let y = kd .inside s in rw x at y)
   both-inside s (badly p) x = let y : p ≤ length s * 8 = rw x at (kd .inside s) in omega (arith, bad-is p (U s) .0, ku .inside s)
-  both-inside s (ranOut p) x = let y : p ≤ length s * 8 = rw x at (kd .inside s) in omega (arith, out-is p (U s) .0, ku .inside s)
+  both-inside s (ranOut p k) x = let y : p ≤ length s * 8 = rw x at (kd .inside s) in omega (arith, out-is p k (U s) .0, ku .inside s)
 
   pub both-keep : Keeps (λ s. orElse (D s) (U s))
   both-keep =

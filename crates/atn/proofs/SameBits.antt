@@ -112,10 +112,10 @@ module _ (b c : ℕ → ℕ) where
     same (element f) x e at h = same f (x .1, x .1) e at h
     same (ext f g) x e at h = pull-same e h at 1 λ y _. fork-same y (same f x e (at + 1) h) (then-same refl (λ q. same g x e q h))
     same (seq fs) x e at h =
-        fetch-same e h at (flags fs) (λ _ l. rw (same-unread fs at (agree-le h l)) (then-same refl (λ p. sameFields fs x e at p h l))) (ap (λ (y : ℕ → ℕ). stop out (at + (e - at)) [] (unreadMarks fs y at)) (within-same e h))
+        fetch-same e h at (flags fs) (λ _ l. rw (same-unread fs at (agree-le h l)) (then-same refl (λ p. sameFields fs x e at p h l))) (ap (λ (y : ℕ → ℕ). stop (out 1) (at + (e - at)) [] (unreadMarks fs y at)) (within-same e h))
     same (loose fs) x e at h =
         fetch-same e h at (flags fs) (λ _ l. rw (same-unread fs at (agree-le h l)) (then-same refl (λ p. sameFields fs x e at p h l)))
-        (ap (λ (y : ℕ → ℕ). late [] (unreadMarks fs y at) (readFields fs x y e at (at + (e - at)))) (within-same e h))
+        (ap (λ (y : ℕ → ℕ). late 1 [] (unreadMarks fs y at) (readFields fs x y e at (at + (e - at)))) (within-same e h))
     same (choice t fs) x e at h = pull-same e h at _ λ i _. then-same refl (λ q. sameChoice fs i x e q h)
     same (many lo hi f) x e at h = sized-same e h at lo hi λ k q _. ap (λ (r : ℕ → ℕ → Ans). times r 1 k q) (fun-ext λ i. fun-ext λ p. same f (x .0, i) e p h)
     same (inner f) x e at h = length-same e h 8193 at λ k q. pull-same e h q k λ _ u. ap (close (q + k)) (same f x (q + k) q (agree-le h u))

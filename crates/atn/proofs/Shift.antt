@@ -20,7 +20,7 @@ use Rattle.atn.proofs.Inverse.{both}
 -- the answer with its place moved by a
 unfoldable pub moved : ℕ → Ans → Ans
 moved a (ok p R m) = ok (a + p) R m
-moved a (past p R m) = past (a + p) R m
+moved a (past k p R m) = past k (a + p) R m
 moved a (stop w p R m) = stop w (a + p) R m
 
 -- no record of the format is a place in the frame
@@ -68,20 +68,20 @@ never h = let z : _≡_ {A = ℕ} 0 1 = cc in absurd (omega arith)
 moved-glue : (a : ℕ) (R : List Rec) (m : ℕ) (x : Ans) → glue R m (moved a x) ≡ moved a (glue R m x)
 unfolding moved glue
 moved-glue a R m (ok p S n) = refl
-moved-glue a R m (past p S n) = refl
+moved-glue a R m (past k p S n) = refl
 moved-glue a R m (stop w p S n) = refl
 
-moved-late : (a : ℕ) (R : List Rec) (m : ℕ) (x : Ans) → late R m (moved a x) ≡ moved a (late R m x)
+moved-late : (a k : ℕ) (R : List Rec) (m : ℕ) (x : Ans) → late k R m (moved a x) ≡ moved a (late k R m x)
 unfolding moved late
-moved-late a R m (ok p S n) = refl
-moved-late a R m (past p S n) = refl
-moved-late a R m (stop w p S n) = refl
+moved-late a k R m (ok p S n) = refl
+moved-late a k R m (past l p S n) = refl
+moved-late a k R m (stop w p S n) = refl
 
 moved-soft : (a k : ℕ) (r : Bool) (x : Ans) → softly k r (moved a x) ≡ moved a (softly k r x)
 unfolding moved softly passOver
 moved-soft a k r (ok p R m) = refl
-moved-soft a k r (past p R m) = refl
-moved-soft a k r (stop out p R m) = refl
+moved-soft a k r (past l p R m) = refl
+moved-soft a k r (stop (out l) p R m) = refl
 moved-soft a k r (stop bad p R m) = refl
 moved-soft a k r (stop lack p R m) = refl
 moved-soft a k r (stop (quit o j l) p R m) = refl
@@ -89,8 +89,8 @@ moved-soft a k r (stop (quit o j l) p R m) = refl
 moved-lax : (a k : ℕ) (j : Bool) (x : Ans) → laxly k j (moved a x) ≡ moved a (laxly k j x)
 unfolding moved laxly giveUp
 moved-lax a k j (ok p R m) = refl
-moved-lax a k j (past p R m) = refl
-moved-lax a k j (stop out p R m) = refl
+moved-lax a k j (past l p R m) = refl
+moved-lax a k j (stop (out l) p R m) = refl
 moved-lax a k j (stop bad p R m) = refl
 moved-lax a k j (stop lack p R m) = refl
 moved-lax a k j (stop (quit o i l) p R m) = refl
@@ -105,8 +105,8 @@ same-end a p q = go (eqb p q) refl
 pub moved-close : (a q : ℕ) (x : Ans) → close (a + q) (moved a x) ≡ moved a (close q x)
 unfolding moved close shut
 moved-close a q (ok p R m) = rw (same-end a p q)
-moved-close a q (past p R m) = rw (same-end a p q)
-moved-close a q (stop out p R m) = refl
+moved-close a q (past k p R m) = rw (same-end a p q)
+moved-close a q (stop (out l) p R m) = refl
 moved-close a q (stop bad p R m) = refl
 moved-close a q (stop lack p R m) = refl
 moved-close a q (stop (quit o false k) p R m) = refl
@@ -115,7 +115,7 @@ moved-close a q (stop (quit o true k) p R m) = rw (same-end a p q)
 then-moved : (a : ℕ) (x : Ans) (k k′ : ℕ → Ans) → ((q : ℕ) → k′ (a + q) ≡ moved a (k q)) → then (moved a x) k′ ≡ moved a (then x k)
 unfolding then moved
 then-moved a (ok q R m) k k′ h = rw (h q) (moved-glue a R m (k q))
-then-moved a (past q R m) k k′ h = rw (h q) (moved-late a R m (k q))
+then-moved a (past l q R m) k k′ h = rw (h q) (moved-late a l R m (k q))
 then-moved a (stop w q R m) k k′ h = refl
 
 -- in a row: what was read before is known
@@ -171,7 +171,9 @@ module _ (b c : ℕ → ℕ) (a L : ℕ) (agree : (i : ℕ) → i < L → b i �
 
     pull-moved : (at n : ℕ) (k k′ : ℕ → Ans) → ((v : ℕ) → at + n ≤ e → k′ v ≡ moved a (k v)) → pull c (a + e) (a + at) n k′ ≡ moved a (pull b e at n k)
     unfolding pull moved
-    pull-moved at n k k′ g = fetch-moved at n k k′ (stop out at [] 0) (stop out (a + at) [] 0) g (λ _. refl)
+    pull-moved at n k k′ g =
+        let z : a + at + n - (a + e) ≡ at + n - e = omega arith in
+        fetch-moved at n k k′ (stop (out (at + n - e)) at [] 0) (stop (out (a + at + n - (a + e))) (a + at) [] 0) g (λ _. rw z)
 
     sized-moved : (at lo hi : ℕ) (k k′ : ℕ → ℕ → Ans) → ((n q : ℕ) → q ≤ e → k′ n (a + q) ≡ moved a (k n q)) → sized c (a + e) (a + at) lo hi k′ ≡ moved a (sized b e at lo hi k)
     unfolding sized then
@@ -257,7 +259,7 @@ mutual
       let g : (i : ℕ) → i < at + w + e → within b e i ≡ within c (a + e) (a + i) = λ i _. within-moved b c a e (λ j k. h j (omega arith)) i in
       let u = unread-moved (within b e) (within c (a + e)) a (at + w + e) g fs at (omega arith) in
       let v = shiftFields (within b e) (within c (a + e)) a (at + w + e) g fs x e at (at + (e - at)) z (omega arith) (omega arith) in
-      rw (y, ← u, v) (moved-late a [] (unreadMarks fs (within b e) at) (readFields fs x (within b e) e at (at + (e - at)))))
+      rw (y, ← u, v) (moved-late a 1 [] (unreadMarks fs (within b e) at) (readFields fs x (within b e) e at (at + (e - at)))))
   shift b c a L h (choice t fs) x e at z l = pull-moved b c a L h e l at _ _ _ λ v _. ok-moved a _ _ 0 _ _ (add-assoc a at _) (λ p. shiftChoice b c a L h fs v x e p z l)
   shift b c a L h (many lo hi f) x e at z l = sized-moved b c a L h e l at lo hi _ _ λ k q _. times-moved a _ _ (λ i p. shift b c a L h f (x .0, i) e p z l) 1 k q
   shift b c a L h (inner f) x e at z l =

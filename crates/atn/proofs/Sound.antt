@@ -313,7 +313,7 @@ module _ (b : ℕ → ℕ) (bit : (i : ℕ) → b i < 2) where
         let y = fetch-inv b e at (flags fs) _ _ (λ q. never q) h in
         found-fields fs x e at p R (y .1) (λ U z. soundFields fs x e at (at + flags fs) p U z (omega arith))
     sound (loose fs) x e at p R h l =
-        let y = fetch-inv b e at (flags fs) _ _ (λ q. never-late [] _ _ q) h in
+        let y = fetch-inv b e at (flags fs) _ _ (λ q. never-late 1 [] _ _ q) h in
         let z : FoundF (seq fs) x e at p R = found-fields fs x e at p R (y .1) (λ U z. soundFields fs x e at (at + flags fs) p U z (omega arith)) in
         record { val = z .val; good = z .good; spelt = z .spelt; next = z .next; recs = z .recs; fits = z .fits }
     sound (choice t fs) x e at p R h l =

@@ -24,9 +24,9 @@ pub record Becomes (b c : ℕ → ℕ) (u : ℕ) (x y : Ans) : Type 0 where
 not-both : {A : Type 0} → true ≡ false → A
 not-both h = let z : _≡_ {A = ℕ} 0 1 = cc in absurd (omega arith)
 
-out-open : (r : ℕ) (R : List Rec) (m : ℕ) → isOpen (stop out r R m) ≡ true
+out-open : (k r : ℕ) (R : List Rec) (m : ℕ) → isOpen (stop (out k) r R m) ≡ true
 unfolding isOpen opens
-out-open r R m = refl
+out-open k r R m = refl
 
 ---------------------------------------------------------------- steps
 
@@ -66,12 +66,12 @@ module _ (b c : ℕ → ℕ) (e u : ℕ) where
 
   rel-pull : (at n : ℕ) (k k′ : ℕ → Ans) → ((v : ℕ) → at + n ≤ reach (k v)) → ((v : ℕ) → at + n ≤ u → Agree b c (at + n) → Becomes b c u (k v) (k′ v)) → Becomes b c u (pull b e at n k) (pull c u at n k′)
   unfolding pull
-  rel-pull at n k k′ mo h = rel-fetch at n k k′ (stop out at [] 0) (stop out at [] 0) mo h (out-open at [] 0) (out-open at [] 0)
+  rel-pull at n k k′ mo h = rel-fetch at n k k′ (stop (out (at + n - e)) at [] 0) (stop (out (at + n - u)) at [] 0) mo h (out-open _ at [] 0) (out-open _ at [] 0)
 
   then-open : (a : Ans) (k : ℕ → Ans) → isOpen a ≡ true → isOpen (then a k) ≡ true
   unfolding then isOpen
   then-open (ok q R m) k h = not-both (sym h)
-  then-open (past q R m) k h = late-is R m (k q) .1
+  then-open (past l q R m) k h = late-is l R m (k q) .1
   then-open (stop w q R m) k h = h
 
   rel-then : (a a′ : Ans) (k k′ : ℕ → Ans) → Becomes b c u a a′ → ((q : ℕ) → q ≤ reach (k q)) → ((q : ℕ) → q ≤ u → Agree b c q → Becomes b c u (k q) (k′ q)) → Becomes b c u (then a k) (then a′ k′)
@@ -95,7 +95,7 @@ module _ (b c : ℕ → ℕ) (e u : ℕ) where
             rw x (glue-is R m (k′ q) .1 ∙ (h q l (agree-le a l)) .short o′ (omega arith) a))
             (λ l. then-open a′ k′ (r .short refl l a));
       }
-  rel-then (past q R m) a′ k k′ r mo h = rel-open (late-is R m (k q) .1)
+  rel-then (past l q R m) a′ k k′ r mo h = rel-open (late-is l R m (k q) .1)
   rel-then (stop w q R m) a′ k k′ r mo h =
       record { whole = λ o a l. (let x : a′ ≡ stop w q R m = r .whole o a l in rw x); short = λ o x a. then-open a′ k′ (r .short o x a) }
 
@@ -212,9 +212,9 @@ module _ (b c : ℕ → ℕ) where
         rel-pull b c e u at 1 _ _ (λ y. mono-fork (at + 1) y _ _ (mono b f x e (at + 1)) (mono-then (at + 1) _ _ (omega arith) (λ q. mono b g x e q))) λ y l _.
         rel-fork b c e u y (rel f x e u (at + 1) l) (rel-then b c e u _ _ _ _ (rel-eq b c e u refl l) (λ q. mono b g x e q) (λ q z _. rel g x e u q z))
     rel (seq fs) x e u at h =
-        rel-fetch b c e u at (flags fs) _ _ _ _ (λ _. mono-then (at + flags fs) _ _ (omega arith) (λ p. monoFields b fs x e at p)) (λ _ l a. rel-fields b c e u fs x at l a (λ p y. relFields fs x e u at p y a)) (out-open _ _ _) (out-open _ _ _)
+        rel-fetch b c e u at (flags fs) _ _ _ _ (λ _. mono-then (at + flags fs) _ _ (omega arith) (λ p. monoFields b fs x e at p)) (λ _ l a. rel-fields b c e u fs x at l a (λ p y. relFields fs x e u at p y a)) (out-open _ _ _ _) (out-open _ _ _ _)
     rel (loose fs) x e u at h =
-        rel-fetch b c e u at (flags fs) _ _ _ _ (λ _. mono-then (at + flags fs) _ _ (omega arith) (λ p. monoFields b fs x e at p)) (λ _ l a. rel-fields b c e u fs x at l a (λ p y. relFields fs x e u at p y a)) (late-is [] _ _ .1) (late-is [] _ _ .1)
+        rel-fetch b c e u at (flags fs) _ _ _ _ (λ _. mono-then (at + flags fs) _ _ (omega arith) (λ p. monoFields b fs x e at p)) (λ _ l a. rel-fields b c e u fs x at l a (λ p y. relFields fs x e u at p y a)) (late-is 1 [] _ _ .1) (late-is 1 [] _ _ .1)
     rel (choice t fs) x e u at h =
         rel-pull b c e u at _ _ _ (λ i. mono-then (at + width (highest (alternativesOf fs))) _ _ (omega arith) (λ q. monoChoice b fs i x e q)) λ i l _.
         rel-then b c e u _ _ _ _ (rel-eq b c e u refl l) (λ q. monoChoice b fs i x e q) (λ q y _. relChoice fs i x e u q y)

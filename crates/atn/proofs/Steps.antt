@@ -24,7 +24,7 @@ use Rattle.atn.specs.Told.{tellAny, tellAll}
 pub glue-nil : (a : Ans) → glue [] 0 a ≡ a
 unfolding glue or
 glue-nil (ok p R m) = refl
-glue-nil (past p R m) = refl
+glue-nil (past k p R m) = refl
 glue-nil (stop w p R m) = refl
 
 -- nothing told and nothing marked
@@ -53,11 +53,11 @@ module _ (b : ℕ → ℕ) (e : ℕ) where
 
   pub pull-go : (at n : ℕ) (k : ℕ → Ans) → at + n ≤ e → pull b e at n k ≡ k (uint b at n)
   unfolding pull
-  pull-go at n k h = fetch-go at n k (stop out at [] 0) h
+  pull-go at n k h = fetch-go at n k (stop (out (at + n - e)) at [] 0) h
 
-  pub pull-no : (at n : ℕ) (k : ℕ → Ans) → e < at + n → pull b e at n k ≡ stop out at [] 0
+  pub pull-no : (at n : ℕ) (k : ℕ → Ans) → e < at + n → pull b e at n k ≡ stop (out (at + n - e)) at [] 0
   unfolding pull
-  pull-no at n k h = fetch-no at n k (stop out at [] 0) h
+  pull-no at n k h = fetch-no at n k (stop (out (at + n - e)) at [] 0) h
 
   pub pull-spelt : (at n v : ℕ) (k : ℕ → Ans) → v < 2 ^ n → Spells b at (bitsOf n v) → at + n ≤ e → pull b e at n k ≡ k v
   pull-spelt at n v k l s h = pull-go at n k h ∙ ap k (uint-back b at n v l s)

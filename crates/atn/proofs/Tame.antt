@@ -20,9 +20,10 @@ pub record Kind : Type 0 where
   pub softs : Bool
   pub laxes : Bool
   pub quits : Bool
+  pub outs : Bool
 
 unfoldable pub keepsStop : Kind → Why → Bool
-keepsStop k out = true
+keepsStop k (out n) = k .outs
 keepsStop k bad = true
 keepsStop k lack = true
 keepsStop k (quit o j m) = k .quits
@@ -68,9 +69,10 @@ unfoldable mutual
 pub record Keeps (k : Kind) (P : Ans → Type 0) : Type 0 where
   pub keeps-ok : (p : ℕ) (R : List Rec) (m : ℕ) → P (ok p R m)
   pub keeps-stop : (w : Why) (p : ℕ) (R : List Rec) (m : ℕ) → keepsStop k w ≡ true → P (stop w p R m)
+  pub keeps-out : (n p : ℕ) (R : List Rec) (m : ℕ) → P (stop (out n) p R m)
   pub keeps-then : (a : Ans) (f : ℕ → Ans) → P a → ((q : ℕ) → P (f q)) → P (then a f)
   pub keeps-close : (q : ℕ) (a : Ans) → P (close q a)
-  pub keeps-late : k .looses ≡ true → (R : List Rec) (m : ℕ) (a : Ans) → P a → P (late R m a)
+  pub keeps-late : k .looses ≡ true → (R : List Rec) (m : ℕ) (a : Ans) → P a → P (late 1 R m a)
   pub keeps-soft : k .softs ≡ true → (m : ℕ) (r : Bool) (a : Ans) → P a → P (softly m r a)
   pub keeps-lax : k .laxes ≡ true → (m : ℕ) (j : Bool) (a : Ans) → P a → P (laxly m j a)
 
@@ -78,9 +80,8 @@ module _ (kind : Kind) (P : Ans → Type 0) (keeps : Keeps kind P) where
   fine : (p : ℕ) (R : List Rec) (m : ℕ) → P (ok p R m)
   fine = keeps .keeps-ok
 
-  short-of : (p : ℕ) (R : List Rec) (m : ℕ) → P (stop out p R m)
-  unfolding keepsStop
-  short-of p R m = keeps .keeps-stop out p R m refl
+  short-of : (n p : ℕ) (R : List Rec) (m : ℕ) → P (stop (out n) p R m)
+  short-of = keeps .keeps-out
 
   broken : (p : ℕ) (R : List Rec) (m : ℕ) → P (stop bad p R m)
   unfolding keepsStop
@@ -106,7 +107,7 @@ module _ (kind : Kind) (P : Ans → Type 0) (keeps : Keeps kind P) where
 
   tame-pull : (b : ℕ → ℕ) (e at n : ℕ) (k : ℕ → Ans) → ((v : ℕ) → P (k v)) → P (pull b e at n k)
   unfolding pull
-  tame-pull b e at n k h = tame-fetch b e at n k (stop out at [] 0) (short-of at [] 0) h
+  tame-pull b e at n k h = tame-fetch b e at n k (stop (out (at + n - e)) at [] 0) (short-of (at + n - e) at [] 0) h
 
   module _ (b : ℕ → ℕ) (e : ℕ) where
     tame-sized : (at lo hi : ℕ) (k : ℕ → ℕ → Ans) → ((n q : ℕ) → P (k n q)) → P (sized b e at lo hi k)
@@ -156,7 +157,7 @@ module _ (kind : Kind) (P : Ans → Type 0) (keeps : Keeps kind P) where
     tame-read b (ext f g) x e at h =
         let z = both (tame kind f) (tame kind g) h in
         tame-pull b e at 1 _ λ y. tame-fork y _ _ (tame-read b f x e (at + 1) (z .0)) (keeps .keeps-then _ _ (fine _ _ _) (λ p. tame-read b g x e p (z .1)))
-    tame-read b (seq fs) x e at h = tame-fetch b e at (flags fs) _ _ (short-of _ _ _) λ _. keeps .keeps-then _ _ (fine _ _ _) (λ p. tame-fields b fs x e at p h)
+    tame-read b (seq fs) x e at h = tame-fetch b e at (flags fs) _ _ (short-of 1 _ _ _) λ _. keeps .keeps-then _ _ (fine _ _ _) (λ p. tame-fields b fs x e at p h)
     tame-read b (loose fs) x e at h =
         let z = both (kind .looses) (tameFields kind fs) h in
         tame-fetch b e at (flags fs) _ _ (keeps .keeps-late (z .0) _ _ _ (tame-fields (within b e) fs x e at (at + (e - at)) (z .1))) λ _. keeps .keeps-then _ _ (fine _ _ _) (λ p. tame-fields b fs x e at p (z .1))

@@ -13,7 +13,7 @@ use Rattle.atn.specs.Format.{Fmt, num, small, out, lack}
 use Rattle.atn.specs.Format as format
 use Rattle.atn.specs.Reading.{Rec, rec, Ans, ok, stop, mark, or, unless, over, word, octets, packs, pack, coded, spaced, noneAbove, spanned, glue, tardy, late, then, times, fork, guard, fetch, pull, sized, letters, units, short, long, fragment, lengths, lengthThen, flags, unreadMark, unreadMarks, within, shut, close, kept, passOver, softly, giveUp, laxly, read, readFields, readChoice}
 use Rattle.atn.specs.Messages.{argumentOf, elements, dateTimeGroup, levelType, messageData}
-use Rattle.atn.specs.Entries.{Reply, accept, ranOut, badly, unsupplied, stopped, reply, readFrame, afterOut, afterBad, orElse, flat, need, settle, decide, enter, frame-fits, table-fits, direction-fits, pdus, cmOf, parse-pdus, parse-apdu, parse-cm, parse-acse-apdu}
+use Rattle.atn.specs.Entries.{Reply, accept, ranOut, badly, unsupplied, stopped, reply, readFrame, afterOut, afterBad, orElse, Answer, accepted, refused, flat, need, settle, decide, enter, frame-fits, table-fits, direction-fits, pdus, cmOf, parse-pdus, parse-apdu, parse-cm, parse-acse-apdu}
 use Rattle.atn.specs.Worked.{Entry, downlink, uplink, apdu, cm-ground, cm-logon, acse-apdu, Question, range, field, count-of, length-of, small-octets, frame, told, records-of, without-words, zeros, Written, bits, records, is, bad, whole, cut, refuses, other, Row, _gives_, written, worked, raw-bytes, raw-place, small-bytes, down, up, lent, enters, only, valuesIn, of-answer, told-in, counted}
 use Rattle.atn.specs.Tags as tag
 
@@ -25,7 +25,7 @@ valuesOf t (rec u n v s ∷ R) = cond (eqb t u) (v ∷ valuesOf t R) (valuesOf t
 
 of-reply : (List Rec → ℕ → Written) → Reply → Written
 of-reply h (accept c p m R) = h R m
-of-reply h (ranOut p) = other
+of-reply h (ranOut p k) = other
 of-reply h (badly p) = bad
 of-reply h (unsupplied p) = other
 
@@ -38,9 +38,9 @@ pub one-told : (p v m : ℕ) → one (ok p (rec 0 0 v 0 ∷ []) m) ≡ is v m
 unfolding one only valuesOf of-reply reply
 one-told p v m = refl
 
-pub one-out : (p m : ℕ) (R : List Rec) → one (stop out p R m) ≡ other
+pub one-out : (k p m : ℕ) (R : List Rec) → one (stop (out k) p R m) ≡ other
 unfolding one of-reply reply stopped
-one-out p m R = refl
+one-out k p m R = refl
 
 pub one-bad : (p m : ℕ) (R : List Rec) → one (stop format.bad p R m) ≡ bad
 unfolding one of-reply reply stopped
@@ -128,6 +128,36 @@ in-messages =
 pub all-in-messages : map (λ (r : Written × Written). r .0) in-messages ≡ map (λ (r : Written × Written). r .1) in-messages
 unfolding in-messages
 all-in-messages = refl
+
+-- request b) of 02: the reach and the bits lacked, where a frame ran out
+lacked-in : Answer → Written
+lacked-in (accepted c p m k) = other
+lacked-in (refused n p k l) = is p l
+
+short-by : Entry → List ℕ → Written
+unfolding width bitOf readBits lent enters parse-pdus parse-apdu parse-cm parse-acse-apdu pdus cmOf enter decide frame-fits table-fits direction-fits settle need flat orElse afterBad afterOut readFrame down up lacked-in
+short-by e s = lacked-in (enters e s lent .0)
+
+pub ran-out : List (Written × Written)
+unfolding short-by
+ran-out =
+    -- the first bit of a message
+    (short-by acse-apdu [], is 0 1)
+    ∷ (short-by apdu [], is 0 1)
+    -- a length of one octet, of which its first bit and one more are there
+    ∷ (short-by downlink (0x64 ∷ []), is 7 6)
+    -- an inner string of 52 bits, of which two are there; by `parse_apdu` the downlink's number, since the uplink is badly formed
+    ∷ (short-by downlink (0x64 ∷ 0xD0 ∷ []), is 14 50)
+    ∷ (short-by apdu (0x64 ∷ 0xD0 ∷ []), is 14 50)
+    -- six presence bits, one after another, of which five are there
+    ∷ (short-by cm-logon (0x00 ∷ []), is 8 1)
+    -- a character of seven bits, of which four are there
+    ∷ (short-by cm-logon (0x00 ∷ 0x00 ∷ []), is 12 3)
+    ∷ []
+
+pub all-ran-out : map (λ (r : Written × Written). r .0) ran-out ≡ map (λ (r : Written × Written). r .1) ran-out
+unfolding ran-out
+all-ran-out = refl
 
 pub tested-first : List Row
 tested-first =

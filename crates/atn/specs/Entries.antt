@@ -1,7 +1,7 @@
 -- The four entries: the complete answer, and what the lent words hold afterwards, as functions of frame, tables, direction and words.
 use mathlib.Core.Bool.{Bool, true, false, cond, _&&_}
 use mathlib.Core.List.{List, [], _∷_, _++_}
-use Prim.Native.Nat.{ℕ, zero, suc, _+_, _*_, max}
+use Prim.Native.Nat.{ℕ, zero, suc, _+_, _*_, max, min}
 use lib.ListN.{length, drop}
 use lib.Dec.{leb, eqb}
 use Rattle.x691.specs.Bits.{bitOf}
@@ -11,36 +11,38 @@ use Rattle.atn.specs.Messages.{aircraftPdus, groundPdus, cmGround, cmAir
 
 ---------------------------------------------------------------- what a reading says
 
--- accepted: whether cut, reach, marks, records; or refused: 4 ran out, 5 badly formed, 6 unsupplied, with the bits taken
+-- accepted: whether cut, reach, marks, records; or refused: 4 ran out, with the bits taken and the bits lacked; 5 badly formed, 6 unsupplied, with the bits taken
 pub data Reply : Type 0 where
   accept : Bool → ℕ → ℕ → List Rec → Reply
-  ranOut badly unsupplied : ℕ → Reply
+  ranOut : ℕ → ℕ → Reply
+  badly unsupplied : ℕ → Reply
 
 unfoldable pub stopped : Why → ℕ → List Rec → ℕ → Reply
-stopped out p R m = ranOut p
+stopped (out k) p R m = ranOut p k
 stopped bad p R m = badly p
 stopped lack p R m = unsupplied p
 stopped (quit o j k) p R m = accept o p (or (mark k) m) R
 
 unfoldable pub reply : Ans → Reply
 reply (ok p R m) = accept false p m R
-reply (past p R m) = accept true p m R
+reply (past k p R m) = accept true p m R
 reply (stop w p R m) = stopped w p R m
 
 -- a frame by a format
 unfoldable pub readFrame : Fmt → List ℕ → Reply
 readFrame f s = reply (read f (0, 0) (bitOf s) (length s * 8) 0)
 
--- `parse_apdu`: the downlink reading, then the uplink one; after a downlink 4 or 5 the reach is the larger, the marks the uplink's alone
-unfoldable pub afterOut : ℕ → Reply → Reply
-afterOut p (accept c q m R) = accept true (max p q) m R
-afterOut p (ranOut q) = ranOut (max p q)
-afterOut p (badly q) = ranOut (max p q)
-afterOut p (unsupplied q) = ranOut (max p q)
+-- `parse_apdu`: the downlink reading, then the uplink one; after a downlink 4 or 5 the reach is the larger, the marks the uplink's alone;
+-- the bits lacked are "the number from the reading that ran out, the smaller one if both did"
+unfoldable pub afterOut : ℕ → ℕ → Reply → Reply
+afterOut p k (accept c q m R) = accept true (max p q) m R
+afterOut p k (ranOut q l) = ranOut (max p q) (min k l)
+afterOut p k (badly q) = ranOut (max p q) k
+afterOut p k (unsupplied q) = ranOut (max p q) k
 
 unfoldable pub afterBad : ℕ → Reply → Reply
 afterBad p (accept c q m R) = accept c (max p q) m R
-afterBad p (ranOut q) = ranOut (max p q)
+afterBad p (ranOut q l) = ranOut (max p q) l
 afterBad p (badly q) = badly (max p q)
 afterBad p (unsupplied q) = unsupplied (max p q)
 
@@ -48,14 +50,14 @@ unfoldable pub orElse : Reply → Reply → Reply
 orElse (accept c p m R) u = accept c p m R
 orElse (unsupplied p) u = unsupplied p
 orElse (badly p) u = afterBad p u
-orElse (ranOut p) u = afterOut p u
+orElse (ranOut p k) u = afterOut p k u
 
 ---------------------------------------------------------------- what an entry returns
 
--- accepted: whether cut, reach, marks, number of records; refused: document 01's number, reach, words needed
+-- accepted: whether cut, reach, marks, number of records; refused: document 01's number, reach, words needed, bits lacked
 pub data Answer : Type 0 where
   accepted : Bool → ℕ → ℕ → ℕ → Answer
-  refused : ℕ → ℕ → ℕ → Answer
+  refused : ℕ → ℕ → ℕ → ℕ → Answer
 
 -- the answer, and the lent words afterwards
 abbrev pub Outcome : Type 0
@@ -71,10 +73,10 @@ need R = length R * 4
 
 -- 7 where the records do not fit; records fill the front, words after them stay; a refusal leaves all
 unfoldable pub settle : Reply → List ℕ → Outcome
-settle (accept c p m R) w = cond (leb (need R) (length w)) (accepted c p m (length R), flat R ++ drop (need R) w) (refused 7 p (need R), w)
-settle (ranOut p) w = (refused 4 p 0, w)
-settle (badly p) w = (refused 5 p 0, w)
-settle (unsupplied p) w = (refused 6 p 0, w)
+settle (accept c p m R) w = cond (leb (need R) (length w)) (accepted c p m (length R), flat R ++ drop (need R) w) (refused 7 p (need R) 0, w)
+settle (ranOut p k) w = (refused 4 p 0 k, w)
+settle (badly p) w = (refused 5 p 0 0, w)
+settle (unsupplied p) w = (refused 6 p 0 0, w)
 
 ---------------------------------------------------------------- what is tested before anything is read
 
@@ -95,7 +97,7 @@ pub data Test : Type 0 where
 unfoldable pub decide : List Test → Reply → List ℕ → Outcome
 decide [] r w = settle r w
 decide (test true n ∷ ts) r w = decide ts r w
-decide (test false n ∷ ts) r w = (refused n 0 0, w)
+decide (test false n ∷ ts) r w = (refused n 0 0 0, w)
 
 -- every entry first asks for the frame's length, then for what else it is given
 unfoldable pub enter : List Test → (List ℕ → Reply) → List ℕ → List ℕ → Outcome

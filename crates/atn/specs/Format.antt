@@ -7,8 +7,10 @@ use Rattle.x691.specs.Types.{Members, END, _&_, _&?_, Alternatives, NONE, _∣_
 
 -- why a reading stops
 pub data Why : Type 0 where
-  -- 4: a required read passes the end; 5: badly formed; 6: an unsupplied item is reached
-  out bad lack : Why
+  -- 4: a required read passes the end, with the bits that it lacked
+  out : ℕ → Why
+  -- 5: badly formed; 6: an unsupplied item is reached
+  bad lack : Why
   -- a part was given up, with all that follows it in its window, and the window is accepted:
   -- whether the window's end was the cause, whether the bits left count for mark 6, the mark of the part
   quit : Bool → Bool → ℕ → Why

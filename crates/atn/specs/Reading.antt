@@ -83,36 +83,36 @@ spanned t m q (suc k) = rec t m q (suc k) ∷ []
 
 ---------------------------------------------------------------- answers of a reading
 
--- the next place, the records and the marks; the same where a tolerated read has passed the window's end and the reading carried on;
+-- the next place, the records and the marks; the same where a tolerated read has passed the window's end and the reading carried on, behind the bits that the first such read lacked;
 -- or why it stopped, the bits taken, the records so far and the marks
 pub data Ans : Type 0 where
   ok : ℕ → List Rec → ℕ → Ans
-  past : ℕ → List Rec → ℕ → Ans
+  past : ℕ → ℕ → List Rec → ℕ → Ans
   stop : Why → ℕ → List Rec → ℕ → Ans
 
 -- what was told and marked before
 unfoldable pub glue : List Rec → ℕ → Ans → Ans
 glue R m (ok p S n) = ok p (R ++ S) (or m n)
-glue R m (past p S n) = past p (R ++ S) (or m n)
+glue R m (past k p S n) = past k p (R ++ S) (or m n)
 glue R m (stop w p S n) = stop w p (R ++ S) (or m n)
 
--- behind the window's end nothing is final: "a 5 or 6 met after a tolerated read has passed the frame's end is 4"
-unfoldable pub tardy : Why → Why
-tardy out = out
-tardy bad = out
-tardy lack = out
-tardy (quit o j m) = quit true j m
+-- behind the window's end nothing is final: "a 5 or 6 met after a tolerated read has passed the frame's end is 4"; the bits lacked are those of "the first read that passed"
+unfoldable pub tardy : ℕ → Why → Why
+tardy k (out l) = out k
+tardy k bad = out k
+tardy k lack = out k
+tardy k (quit o j m) = quit true j m
 
-unfoldable pub late : List Rec → ℕ → Ans → Ans
-late R m (ok p S n) = past p (R ++ S) (or m n)
-late R m (past p S n) = past p (R ++ S) (or m n)
-late R m (stop w p S n) = stop (tardy w) p (R ++ S) (or m n)
+unfoldable pub late : ℕ → List Rec → ℕ → Ans → Ans
+late k R m (ok p S n) = past k p (R ++ S) (or m n)
+late k R m (past l p S n) = past k p (R ++ S) (or m n)
+late k R m (stop w p S n) = stop (tardy k w) p (R ++ S) (or m n)
 
 -- one reading after another
 unfoldable pub then : Ans → (ℕ → Ans) → Ans
-then (ok p R m) k = glue R m (k p)
-then (past p R m) k = late R m (k p)
-then (stop w p R m) k = stop w p R m
+then (ok p R m) f = glue R m (f p)
+then (past k p R m) f = late k R m (f p)
+then (stop w p R m) f = stop w p R m
 
 -- the part is read i times, each with its place
 unfoldable pub times : (ℕ → ℕ → Ans) → ℕ → ℕ → ℕ → Ans
@@ -135,9 +135,9 @@ guard false at m z = stop bad at [] m
 unfoldable pub fetch : (ℕ → ℕ) → ℕ → ℕ → ℕ → (ℕ → Ans) → Ans → Ans
 fetch b e at n k z = cond (leb (at + n) e) (k (uint b at n)) z
 
--- n bits as a number, or ran out without moving
+-- n bits as a number, or ran out without moving: "a bit read that passes the end should say how many bits it lacked"
 unfoldable pub pull : (ℕ → ℕ) → ℕ → ℕ → ℕ → (ℕ → Ans) → Ans
-pull b e at n k = fetch b e at n k (stop out at [] 0)
+pull b e at n k = fetch b e at n k (stop (out (at + n - e)) at [] 0)
 
 -- a size within lo..hi, the highest not tested
 unfoldable pub sized : (ℕ → ℕ) → ℕ → ℕ → ℕ → ℕ → (ℕ → ℕ → Ans) → Ans
@@ -202,7 +202,7 @@ within b e i = cond (ltb i e) (b i) 0
 
 -- what is left of the reading of an inner string that ends at q, given up at p: running past its end is never 4
 unfoldable pub shut : Why → ℕ → ℕ → List Rec → ℕ → Ans
-shut out q p R m = stop bad q R m
+shut (out l) q p R m = stop bad q R m
 shut bad q p R m = stop bad q R m
 shut lack q p R m = stop lack q R m
 shut (quit o false k) q p R m = ok q R (or (mark k) m)
@@ -210,7 +210,7 @@ shut (quit o true k) q p R m = ok q R (or (mark k) (or m (unless (eqb p q) 6)))
 
 unfoldable pub close : ℕ → Ans → Ans
 close q (ok p R m) = ok q R (or m (unless (eqb p q) 6))
-close q (past p R m) = ok q R (or (mark 7) (or m (unless (eqb p q) 6)))
+close q (past k p R m) = ok q R (or (mark 7) (or m (unless (eqb p q) 6)))
 close q (stop w p R m) = shut w q p R m
 
 unfoldable pub kept : Bool → List Rec → List Rec
@@ -218,29 +218,30 @@ kept true R = R
 kept false R = []
 
 unfoldable pub passOver : Why → ℕ → Bool → ℕ → List Rec → ℕ → Ans
-passOver out k r p R m = past p (kept r R) m
+passOver (out l) k r p R m = past l p (kept r R) m
 passOver bad k r p R m = ok p (kept r R) (or (mark k) m)
 passOver lack k r p R m = stop lack p R m
 passOver (quit o j l) k r p R m = stop (quit o j l) p R m
 
 unfoldable pub softly : ℕ → Bool → Ans → Ans
 softly k r (ok p R m) = ok p R m
-softly k r (past p R m) = past p R m
+softly k r (past l p R m) = past l p R m
 softly k r (stop w p R m) = passOver w k r p R m
 
 unfoldable pub giveUp : Why → ℕ → Bool → ℕ → List Rec → ℕ → Ans
-giveUp out k j p R m = stop (quit true j k) p [] m
+giveUp (out l) k j p R m = stop (quit true j k) p [] m
 giveUp bad k j p R m = stop (quit false j k) p [] m
 giveUp lack k j p R m = stop lack p R m
 giveUp (quit o i l) k j p R m = stop (quit o i l) p R m
 
 unfoldable pub laxly : ℕ → Bool → Ans → Ans
 laxly k j (ok p R m) = ok p R m
-laxly k j (past p R m) = past p R m
+laxly k j (past l p R m) = past l p R m
 laxly k j (stop w p R m) = giveUp w k j p R m
 
 ---------------------------------------------------------------- the reading
 
+-- presence bits are taken one after another, so that the first that passes the end lacks 1
 unfoldable mutual
   pub read : Fmt → Ctx → (ℕ → ℕ) → ℕ → ℕ → Ans
   read (num t lo hi) x b e at = let w : ℕ = width (extent lo hi) in pull b e at w λ v. ok (at + w) (rec t (x .0) (word (lo + v)) 0 ∷ []) (over (extent lo hi) v)
@@ -265,10 +266,10 @@ unfoldable mutual
   read (refuse w m) x b e at = stop w at [] m
   read (element f) x b e at = read f (x .1, x .1) b e at
   read (ext f g) x b e at = pull b e at 1 λ y. fork y (read f x b e (at + 1)) (then (ok (at + 1) [] (mark 2)) λ p. read g x b e p)
-  read (seq fs) x b e at = fetch b e at (flags fs) (λ _. then (ok (at + flags fs) [] (unreadMarks fs b at)) λ p. readFields fs x b e at p) (stop out (at + (e - at)) [] (unreadMarks fs (within b e) at))
+  read (seq fs) x b e at = fetch b e at (flags fs) (λ _. then (ok (at + flags fs) [] (unreadMarks fs b at)) λ p. readFields fs x b e at p) (stop (out 1) (at + (e - at)) [] (unreadMarks fs (within b e) at))
   read (loose fs) x b e at =
       fetch b e at (flags fs) (λ _. then (ok (at + flags fs) [] (unreadMarks fs b at)) λ p. readFields fs x b e at p)
-      (late [] (unreadMarks fs (within b e) at) (readFields fs x (within b e) e at (at + (e - at))))
+      (late 1 [] (unreadMarks fs (within b e) at) (readFields fs x (within b e) e at (at + (e - at))))
   read (choice t fs) x b e at = let w : ℕ = width (highest (alternativesOf fs)) in pull b e at w λ i. then (ok (at + w) (rec t (x .0) i 0 ∷ []) 0) λ p. readChoice fs i x b e p
   read (many lo hi f) x b e at = sized b e at lo hi λ k q. times (λ i p. read f (x .0, i) b e p) 1 k q
   read (inner f) x b e at = lengthThen b e at λ k q. pull b e q k λ _. close (q + k) (read f x b (q + k) q)

@@ -161,12 +161,12 @@ valuesIn t (u ∷ n ∷ v ∷ s ∷ w) = cond (eqb t u) (v ∷ valuesIn t w) (va
 unfoldable pub of-answer : Answer → Written
 of-answer (accepted false p m k) = whole p m
 of-answer (accepted true p m k) = cut p m
-of-answer (refused n p k) = refuses n p
+of-answer (refused n p k l) = refuses n p
 
 unfoldable pub told-in : ℕ → Answer → List ℕ → Written
 told-in t (accepted c p m k) w = only (valuesIn t w) m
-told-in t (refused n p k) w = other
+told-in t (refused n p k l) w = other
 
 unfoldable pub counted : Answer → Written
 counted (accepted c p m k) = records k
-counted (refused n p k) = other
+counted (refused n p k l) = other

@@ -21,7 +21,7 @@ use Rattle.cursor.specs.declared.place.Cursor.{Cursor}
 use Rattle.cursor.specs.declared.place.Got.{Got}
 use Rattle.field_ranges.specs.declared.table.Range.{Range}
 use Rattle.character_strings.specs.declared.TextAt.{TextAt}
-use Rattle.cursor.specs.Place.{put, stopped, marked, Inside, Pulled, stuck, short, got, Pulls, Led, stayed, went, failed, Reads}
+use Rattle.cursor.specs.Place.{number, put, stopped, marked, Inside, Pulled, stuck, short, got, Pulls, Led, stayed, went, failed, Reads}
 use Rattle.field_ranges.specs.Ranges.{widthOf}
 use Rattle.field_ranges.specs.Ends.{lowest, highest}
 use Rattle.character_strings.specs.Texts.{textRecs, channelRecs, InFrame, SizeRow, Texts, Channel, Sized, Ahead, Passed, Digits}
@@ -126,18 +126,20 @@ module _ (s : List ℕ) (e : ℕ) where
   letters-all (suc n) at k h = one-more n at k (omega arith) ∙ letters-all n (at + 7) k (omega arith) ∙ ap k (omega arith)
 
   -- the place is behind the last whole one
-  letters-out : (n at : ℕ) (k : ℕ → Ans) → at ≤ e → e < at + n * 7 → seven n at k ≡ stop out (at + (e - at) / 7 * 7) [] 0
+  letters-out : (n at : ℕ) (k : ℕ → Ans) → at ≤ e → e < at + n * 7 → seven n at k ≡ stop (out (7 - (e - at) % 7)) (at + (e - at) / 7 * 7) [] 0
   unfolding letters
   letters-out zero at k l h = absurd (omega arith)
   letters-out (suc n) at k l h = go (leb (at + 7) e) refl λ y. letters-out n (at + 7) k y (omega arith)
     where
-      go : (t : Bool) → leb (at + 7) e ≡ t → (at + 7 ≤ e → seven n (at + 7) k ≡ stop out (at + 7 + (e - (at + 7)) / 7 * 7) [] 0) → seven (suc n) at k ≡ stop out (at + (e - at) / 7 * 7) [] 0
+      go : (t : Bool) → leb (at + 7) e ≡ t → (at + 7 ≤ e → seven n (at + 7) k ≡ stop (out (7 - (e - (at + 7)) % 7)) (at + 7 + (e - (at + 7)) / 7 * 7) [] 0) → seven (suc n) at k ≡ stop (out (7 - (e - at) % 7)) (at + (e - at) / 7 * 7) [] 0
       go true q r =
           let y : at + 7 ≤ e = leb-true (at + 7) e q in
-          one-more n at k y ∙ r y ∙ ap (λ (p : ℕ). stop out p [] 0) (omega arith)
+          let l : 7 - (e - (at + 7)) % 7 ≡ 7 - (e - at) % 7 = omega arith in
+          one-more n at k y ∙ r y ∙ rw l (ap (λ (p : ℕ). stop (out (7 - (e - at) % 7)) p [] 0) (omega arith))
       go false q r =
           let y : e < at + 7 = leb-false (at + 7) e q in
-          pull-no (bitOf s) e at 7 _ y ∙ ap (λ (p : ℕ). stop out p [] 0) (omega arith)
+          let l : at + 7 - e ≡ 7 - (e - at) % 7 = omega arith in
+          pull-no (bitOf s) e at 7 _ y ∙ rw l (ap (λ (p : ℕ). stop (out (7 - (e - at) % 7)) p [] 0) (omega arith))
 
 in-frame-none : {w : ℕ} {s : List ℕ} → InFrame w s (record { at = 0; len = 0 })
 in-frame-none {w} = record { there = omega (arith, zero-mul w); fits = omega (arith, zero-mul w) }
@@ -158,12 +160,12 @@ module _ {s : List ℕ} {c : Cursor} {n : ℕ} where
         held = record { there = omega arith; fits = omega arith };
       }
 
-  pub passed-out : {p : ℕ} {t : Bool} → Ahead s c 0 t → t ≡ true → (c .end - c .at) / 7 < n → p ≡ c .at + 7 * ((c .end - c .at) / 7) → Passed n s c (cut (put c p 4 (c .marks)))
-  passed-out {p} a t l q =
+  pub passed-out : {p w : ℕ} {t : Bool} → Ahead s c 0 t → t ≡ true → (c .end - c .at) / 7 < n → p ≡ c .at + 7 * ((c .end - c .at) / 7) → w ≡ number (out (7 - (c .end - c .at) % 7)) → Passed n s c (cut (put c p w (c .marks)))
+  passed-out {p} a t l q v =
       let o = a .room t in
       let e : p ≡ c .at + (c .end - c .at) / 7 * 7 = omega arith in
       record {
-        characters = λ T. record { led = λ i. failed out p 0 [] (λ x. omega arith) (a .goes t) (letters-out s (c .end) n (c .at) _ (omega arith) (omega arith) ∙ rw e) (omega arith) (rw (or-nil (c .marks))) };
+        characters = λ T. record { led = λ i. failed (out (7 - (c .end - c .at) % 7)) p 0 [] (λ x. omega arith) (a .goes t) (letters-out s (c .end) n (c .at) _ (omega arith) (omega arith) ∙ rw e) (omega arith) (rw (v, or-nil (c .marks))) };
         few = omega arith;
         held = in-frame-none;
       }
@@ -198,13 +200,13 @@ in-window f = record { led = λ i. f i .led i }
 
 abbrev good : Ans → Bool
 good (ok p R m) = true
-good (past p R m) = false
+good (past l p R m) = false
 good (stop w p R m) = false
 
 good-glue : (m : ℕ) (a : Ans) → good (glue [] m a) ≡ good a
 unfolding glue
 good-glue m (ok p R n) = refl
-good-glue m (past p R n) = refl
+good-glue m (past l p R n) = refl
 good-glue m (stop w p R n) = refl
 
 -- of a reading that does not go on it does not matter what would be told
@@ -219,19 +221,19 @@ reads-cut {k} {s} {c} {d} {R} S h r = record { led = λ i. go i (r .led i) }
 glue-glue : (R : List Rec) (m n : ℕ) (a : Ans) → glue R (or m n) a ≡ glue [] m (glue R n a)
 unfolding glue
 glue-glue R m n (ok p S o) = rw (or-assoc m n o)
-glue-glue R m n (past p S o) = rw (or-assoc m n o)
+glue-glue R m n (past l p S o) = rw (or-assoc m n o)
 glue-glue R m n (stop w p S o) = rw (or-assoc m n o)
 
-late-glue : (R : List Rec) (m n : ℕ) (a : Ans) → late R (or m n) a ≡ glue [] m (late R n a)
+late-glue : (k : ℕ) (R : List Rec) (m n : ℕ) (a : Ans) → late k R (or m n) a ≡ glue [] m (late k R n a)
 unfolding glue late
-late-glue R m n (ok p S o) = rw (or-assoc m n o)
-late-glue R m n (past p S o) = rw (or-assoc m n o)
-late-glue R m n (stop w p S o) = rw (or-assoc m n o)
+late-glue k R m n (ok p S o) = rw (or-assoc m n o)
+late-glue k R m n (past l p S o) = rw (or-assoc m n o)
+late-glue k R m n (stop w p S o) = rw (or-assoc m n o)
 
 then-glue : (m : ℕ) (a : Ans) (k : ℕ → Ans) → then (glue [] m a) k ≡ glue [] m (then a k)
 unfolding then glue
 then-glue m (ok p R n) k = glue-glue R m n (k p)
-then-glue m (past p R n) k = late-glue R m n (k p)
+then-glue m (past l p R n) k = late-glue l R m n (k p)
 then-glue m (stop w p R n) k = refl
 
 module _ (b : ℕ → ℕ) (e w n : ℕ) where

@@ -4,6 +4,7 @@ use cursor::place::Cursor;
 use cursor::place::Got;
 use cursor::place::bits;
 use cursor::place::mark;
+use cursor::place::ran_out;
 use cursor::place::stop;
 use field_ranges::table::Range;
 use per::room::holds;
@@ -77,7 +78,7 @@ fn ahead(s: &[u8], c: Cursor, n: usize) -> bool
     false
 }
 
-// So many characters of seven bits, passed over. Without room for all, the reading ran out behind the last whole one.
+// So many characters of seven bits, passed over. Without room for all, the reading ran out behind the last whole one, and lacked what is not there of the next.
 fn characters(s: &[u8], c: Cursor, len: usize) -> TextAt
     ensures { λ r. ⌜ Passed len (now (s .entry)) c r ⌝ }
 {
@@ -86,7 +87,8 @@ fn characters(s: &[u8], c: Cursor, len: usize) -> TextAt
     let marks = c.marks;
     let none = Text { at: 0, len: 0 };
     if ahead(s, c, 0) {
-        let room = (end - at) / 7;
+        let left = end - at;
+        let room = left / 7;
         if len <= room {
             let x = Text { at: at, len: len };
             let d = Cursor {
@@ -97,10 +99,11 @@ fn characters(s: &[u8], c: Cursor, len: usize) -> TextAt
             };
             return TextAt { text: x, c: d };
         }
+        let why = ran_out(7 - left % 7);
         let d = Cursor {
             at: at + 7 * room,
             end: end,
-            why: 4,
+            why: why,
             marks: marks,
         };
         return TextAt { text: none, c: d };

@@ -44,7 +44,7 @@ module _ {v : Verdict} where
   unfolding verdictOf cleanReach
   verdict-not-clean (accept false p m R) h n = absurd (n (rw h refl))
   verdict-not-clean (accept true p m R) h n = refl
-  verdict-not-clean (ranOut p) h n = refl
+  verdict-not-clean (ranOut p lacked) h n = refl
   verdict-not-clean (badly p) h n = refl
   verdict-not-clean (unsupplied p) h n = refl
 
@@ -52,7 +52,7 @@ module _ {v : Verdict} where
   unfolding verdictOf
   verdict-whole (accept false p m R) h z g = rw h at (g R)
   verdict-whole (accept true p m R) h z g = absurd (let y : _≡_ {A = ℕ} 7 0 = rw h at z in omega arith)
-  verdict-whole (ranOut p) h z g = absurd (let y : _≡_ {A = ℕ} 4 0 = rw h at z in omega arith)
+  verdict-whole (ranOut p lacked) h z g = absurd (let y = rw h at z in omega arith)
   verdict-whole (badly p) h z g = absurd (let y : _≡_ {A = ℕ} 5 0 = rw h at z in omega arith)
   verdict-whole (unsupplied p) h z g = absurd (let y : _≡_ {A = ℕ} 6 0 = rw h at z in omega arith)
 
@@ -66,7 +66,7 @@ module _ (f : Fmt) (s : List ℕ) where
   unfolding readFrame reply entries.stopped cleanReach
   led-not-clean n (stayed h q) = absurd (h refl)
   led-not-clean n (went p m z a l q) = absurd (n (rw q refl))
-  led-not-clean n (failed out p m S k z a l q) = rw a
+  led-not-clean n (failed (out lacked) p m S k z a l q) = rw a
   led-not-clean n (failed bad p m S k z a l q) = rw a
   led-not-clean n (failed lack p m S k z a l q) = rw a
   led-not-clean n (failed (quit o j i) p m S k z a l q) = absurd (k refl)

@@ -73,7 +73,7 @@ fn acse_reach(frame: &[u8]) -> Reach
     let apdu = read_apdu(frame);
     match apdu {
         Apdu::Heard(message) => clean(message.cut, message.reach, message.marks),
-        Apdu::RanOut(_) => Reach::NotClean,
+        Apdu::RanOut(_, _) => Reach::NotClean,
         Apdu::Badly(_) => Reach::NotClean,
     }
 }

@@ -14,7 +14,7 @@ pub fn excuse(c: Cursor) -> Cursor
 {
     let at = c.at;
     let end = c.end;
-    let why = c.why;
+    let why = c.why % 16;
     let marks = c.marks | 64;
     match why {
         4 | 5 => Cursor {
@@ -37,7 +37,7 @@ pub fn try_clearance(s: &[u8], words: &mut [u64], n: usize, c: Cursor, place: u6
     }
     let x = read_route_clearance(s, words, n, c, place);
     let d = x.c;
-    let why = d.why;
+    let why = d.why % 16;
     let e = excuse(d);
     match why {
         4..=5 => At { n: n, c: e },

@@ -29,7 +29,7 @@ use Rattle.clearance_count.specs.Counts.{countThen, Counts}
 ---------------------------------------------------------------- what is read without a record, and what follows it
 
 pub seven : (w : Why) → number w ≡ 7 → ⊥
-seven out h = omega arith
+seven (out lacked) h = omega arith
 seven bad h = omega arith
 seven lack h = omega arith
 seven (quit o j m) h = omega arith
@@ -40,7 +40,7 @@ module _ (k l : ℕ → ℕ → Ans) {c d e : Cursor} {R S : List Rec} where
   unfolding isPast
   ran-next (stayed h q r) n x = let y = ran-stays l d e (rw q h) x in stayed h (y .0 ∙ q) (rw (r, y .1))
   ran-next (went p m z a b q) n x = ran-then k l (rw a) (went p m z a b q) x
-  ran-next (passed p m z a b q) n x = absurd (n (rw q refl))
+  ran-next (passed lacked p m z a b q) n x = absurd (n (rw q refl))
   ran-next (gaveUp o j t p m z a b q) n x = ran-then k l (rw a) (gaveUp o j t p m z a b q) x
   ran-next (failed w p m T h z a b q) n x = ran-then k l {R = R} (rw a) (failed w p m T h z a b q) x
 
@@ -59,7 +59,7 @@ runs-mark m k q y = runs-behind (λ e p. ok p [] m) k (reads-ok [] m q) y
 
 abbrev marksOf : Ans → ℕ
 marksOf (ok p R m) = m
-marksOf (past p R m) = m
+marksOf (past lacked p R m) = m
 marksOf (stop w p R m) = m
 
 abbrev probe : ℕ → ℕ → Ans

@@ -21,7 +21,7 @@ use Rattle.atn.proofs.Marks.{or-nil}
 use Rattle.atn.proofs.Steps.{then-nil, fetch-go, fetch-no, pull-go, pull-no}
 use Rattle.cursor.specs.declared.place.Cursor.{Cursor}
 use Rattle.cursor.specs.declared.place.Got.{Got}
-use Rattle.cursor.specs.Place.{put, marked, stopped, Inside, Pulled, stuck, short, got, Pulls, Reads}
+use Rattle.cursor.specs.Place.{number, put, marked, stopped, Inside, Pulled, stuck, short, got, Pulls, Reads}
 use Rattle.cursor.proofs.Laws.{reads-same, reads-then, reads-ok, pull-then, marked-nil, bit-of, Behind}
 use Rattle.length_determinants.proofs.LengthLaws.{reads-mark}
 use Rattle.records.specs.Told.{Told}
@@ -39,23 +39,23 @@ use Rattle.clearances.proofs.LateLaws.{Wants, enough, unreads, wants, l
 ---------------------------------------------------------------- where no bit is left, each part runs out
 
 module _ (b : ℕ → ℕ) (e : ℕ) (x : Ctx) where
-  airport-out : (t : ℕ) → read (message.ia5 t 4 4) x b e e ≡ stop out e [] 0
+  airport-out : (t : ℕ) → read (message.ia5 t 4 4) x b e e ≡ stop (out (e + 7 - e)) e [] 0
   unfolding read sized letters width widthIn over unless uint
   airport-out t = pull-go b e e 0 _ (omega arith) ∙ rw (add-zero e) (then-nil e _ ∙ pull-no b e e 7 _ (omega arith))
 
-  direction-out : (t : ℕ) (fs : Flds) (q : ℕ) → readFields (num t 1 36 ⨾ fs) x b e q e ≡ stop out e [] 0
+  direction-out : (t : ℕ) (fs : Flds) (q : ℕ) → readFields (num t 1 36 ⨾ fs) x b e q e ≡ stop (out (e + 6 - e)) e [] 0
   unfolding read readFields width widthIn extent then
   direction-out t fs q = rw (pull-no b e e 6 _ (omega arith))
 
-  runway-out : (t u : ℕ) → read (message.runway t u) x b e e ≡ stop out e [] 0
+  runway-out : (t u : ℕ) → read (message.runway t u) x b e e ≡ stop (out (e + 6 - e)) e [] 0
   unfolding read flags unreadMarks
   runway-out t u = fetch-go b e e 0 _ _ (omega arith) ∙ rw (add-zero e) (then-nil e (λ p. readFields (num t 1 36 ⨾ num u 0 3 ⨾ end) x b e e p) ∙ direction-out t (num u 0 3 ⨾ end) e)
 
-  procedure-out : (t u v : ℕ) → read (message.procedure t u v) x b e e ≡ stop out e [] 0
+  procedure-out : (t u v : ℕ) → read (message.procedure t u v) x b e e ≡ stop (out 1) e [] 0
   unfolding read flags unreadMarks
-  procedure-out t u v = fetch-no b e e 1 _ _ (omega arith) ∙ ap (λ (p : ℕ). stop out p [] 0) (omega arith)
+  procedure-out t u v = fetch-no b e e 1 _ _ (omega arith) ∙ ap (λ (p : ℕ). stop (out 1) p [] 0) (omega arith)
 
-  legs-out : read (many 1 128 message.leg) x b e e ≡ stop out e [] 0
+  legs-out : read (many 1 128 message.leg) x b e e ≡ stop (out (e + 7 - e)) e [] 0
   unfolding read sized width widthIn
   legs-out = pull-no b e e 7 _ (omega arith)
 
@@ -96,31 +96,31 @@ module _ {s : List ℕ} {c : Cursor} {v : ℕ} (i : ℕ) (z : c .why ≡ 0) (h :
   left : Inside s c → v ≡ uint (bitOf s) (c .at) (c .end - c .at)
   left k = x .bits k z (h k)
 
-  none-there : v ≡ 0 → (k : Inside s c) → read routeClearance (0, i) (bitOf s) (c .end) (c .at) ≡ past (c .end) (first ∷ []) 0
+  none-there : v ≡ 0 → (k : Inside s c) → read routeClearance (0, i) (bitOf s) (c .end) (c .at) ≡ past 1 (c .end) (first ∷ []) 0
   unfolding flags glue
   none-there y k =
       clearance-loose i (bitOf s) (c .end) (c .at)
-      ∙ rw (loose-none (bitOf s) (c .end) (0, i) (c .at) (clearance-wants _ _ _) (k .0) (h k) (omega (arith, h k)) (sym (left k) ∙ y)) (ap (past (c .end) (first ∷ [])) (or-nil 0))
+      ∙ rw (loose-none (bitOf s) (c .end) (0, i) (c .at) (clearance-wants _ _ _) (k .0) (h k) (omega (arith, h k)) (sym (left k) ∙ y)) (ap (past 1 (c .end) (first ∷ [])) (or-nil 0))
 
-  some-there : (v ≡ 0 → ⊥) → (k : Inside s c) → read routeClearance (0, i) (bitOf s) (c .end) (c .at) ≡ stop out (c .end) (first ∷ []) 0
+  some-there : (v ≡ 0 → ⊥) → (k : Inside s c) → read routeClearance (0, i) (bitOf s) (c .end) (c .at) ≡ stop (out 1) (c .end) (first ∷ []) 0
   unfolding flags glue
   some-there y k =
       clearance-loose i (bitOf s) (c .end) (c .at)
-      ∙ rw (loose-some (bitOf s) (c .end) (0, i) (c .at) (clearance-wants _ _ _) (k .0) (h k) (omega (arith, h k)) (λ u. y (left k ∙ u))) (ap (stop out (c .end) (first ∷ [])) (or-nil 0))
+      ∙ rw (loose-some (bitOf s) (c .end) (0, i) (c .at) (clearance-wants _ _ _) (k .0) (h k) (omega (arith, h k)) (λ u. y (left k ∙ u))) (ap (stop (out 1) (c .end) (first ∷ [])) (or-nil 0))
 
   -- no part is there
   pub clipped-none : {n m : ℕ} {w w′ : List ℕ} {d : Cursor} → v ≡ 0 → d ≡ put c (c .end) 7 (c .marks) → Told 1 w w′ n m (first ∷ []) → Runs 1 (λ e p. read routeClearance (0, i) (bitOf s) e p) s c n w w′ (record { n = m; c = d })
-  clipped-none y q t = record { recs = first ∷ []; ran = λ k. passed (c .end) 0 z (none-there y k) (omega arith) (q ∙ rw (or-nil (c .marks))); told = t }
+  clipped-none y q t = record { recs = first ∷ []; ran = λ k. passed 1 (c .end) 0 z (none-there y k) (omega arith) (q ∙ rw (or-nil (c .marks))); told = t }
 
   -- a part is there, and runs out
-  pub clipped-some : {n : ℕ} {w : List ℕ} {d : Cursor} → (v ≡ 0 → ⊥) → d ≡ put c (c .end) 4 (c .marks) → Runs 1 (λ e p. read routeClearance (0, i) (bitOf s) e p) s c n w w (record { n = n; c = d })
+  pub clipped-some : {n : ℕ} {w : List ℕ} {d : Cursor} → (v ≡ 0 → ⊥) → d ≡ put c (c .end) (number (out 1)) (c .marks) → Runs 1 (λ e p. read routeClearance (0, i) (bitOf s) e p) s c n w w (record { n = n; c = d })
   clipped-some y q =
-      record { recs = []; ran = λ k. failed out (c .end) 0 (first ∷ []) (λ o. omega arith) z (some-there y k) (omega arith) (q ∙ rw (or-nil (c .marks))); told = told-within 1 (omega arith) told-none }
+      record { recs = []; ran = λ k. failed (out 1) (c .end) 0 (first ∷ []) (λ o. omega arith) z (some-there y k) (omega arith) (q ∙ rw (or-nil (c .marks))); told = told-within 1 (omega arith) told-none }
 
 -- where it passes the window's end it stands there
 abbrev placeOf : Ans → ℕ
 placeOf (ok p R m) = p
-placeOf (past p R m) = p
+placeOf (past lacked p R m) = p
 placeOf (stop w p R m) = p
 
 module _ (i : ℕ) (b : ℕ → ℕ) (e at : ℕ) where
@@ -146,24 +146,24 @@ module _ (i : ℕ) (b : ℕ → ℕ) (e at : ℕ) where
       by y zero u = ap placeOf (loose-none b e (0, i) at (clearance-wants _ _ _) l y (omega arith) u)
       by y (suc v) u = ap placeOf (loose-some b e (0, i) at (clearance-wants _ _ _) l y (omega arith) (λ z. omega arith))
 
-told-end : {e p m : ℕ} {R : List Rec} (S : List Rec) (a : Ans) → (isPast a ≡ true → placeOf a ≡ e) → laxly 7 true (glue S 0 a) ≡ past p R m → p ≡ e
+told-end : {e l p m : ℕ} {R : List Rec} (S : List Rec) (a : Ans) → (isPast a ≡ true → placeOf a ≡ e) → laxly 7 true (glue S 0 a) ≡ past l p R m → p ≡ e
 unfolding laxly giveUp glue isPast
 told-end S (ok q T n) h y = let z : _≡_ {A = ℕ} 0 1 = cc in absurd (omega arith)
-told-end {e} {p} S (past q T n) h y = let x : q ≡ p = cc in sym x ∙ h refl
-told-end S (stop out q T n) h y = let z : _≡_ {A = ℕ} 0 1 = cc in absurd (omega arith)
+told-end {e} {l} {p} S (past lacked q T n) h y = let x : q ≡ p = cc in sym x ∙ h refl
+told-end S (stop (out lacked) q T n) h y = let z : _≡_ {A = ℕ} 0 1 = cc in absurd (omega arith)
 told-end S (stop bad q T n) h y = let z : _≡_ {A = ℕ} 0 1 = cc in absurd (omega arith)
 told-end S (stop lack q T n) h y = let z : _≡_ {A = ℕ} 0 1 = cc in absurd (omega arith)
 told-end S (stop (quit o j t) q T n) h y = let z : _≡_ {A = ℕ} 0 1 = cc in absurd (omega arith)
 
-pub attempt-end : (i : ℕ) (b : ℕ → ℕ) (e at : ℕ) {p m : ℕ} {R : List Rec} → at ≤ e → attempt b i e at ≡ past p R m → p ≡ e
-attempt-end i b e at {p} {m} {R} l q = told-end (rec 80 0 i 0 ∷ []) (loosely i b e at) (loose-end i b e at l) (sym (ap (laxly 7 true) (clearance-loose i b e at)) ∙ q)
+pub attempt-end : (i : ℕ) (b : ℕ → ℕ) (e at : ℕ) {k p m : ℕ} {R : List Rec} → at ≤ e → attempt b i e at ≡ past k p R m → p ≡ e
+attempt-end i b e at {k} {p} {m} {R} l q = told-end (rec 80 0 i 0 ∷ []) (loosely i b e at) (loose-end i b e at l) (sym (ap (laxly 7 true) (clearance-loose i b e at)) ∙ q)
 
 -- wholly beyond the window
-pub clearance-beyond : (i : ℕ) (b : ℕ → ℕ) (e : ℕ) → read routeClearance (0, i) b e e ≡ past e (rec 80 0 i 0 ∷ []) 0
+pub clearance-beyond : (i : ℕ) (b : ℕ → ℕ) (e : ℕ) → read routeClearance (0, i) b e e ≡ past 1 e (rec 80 0 i 0 ∷ []) 0
 unfolding flags glue
 clearance-beyond i b e =
     clearance-loose i b e e
-    ∙ rw (loose-none b e (0, i) e (clearance-wants _ _ _) (omega arith) (omega arith) (omega arith) (nothing-left b e)) (ap (past e (rec 80 0 i 0 ∷ [])) (or-nil 0))
+    ∙ rw (loose-none b e (0, i) e (clearance-wants _ _ _) (omega arith) (omega arith) (omega arith) (nothing-left b e)) (ap (past 1 e (rec 80 0 i 0 ∷ [])) (or-nil 0))
 
 ---------------------------------------------------------------- all nine are there
 
@@ -204,7 +204,7 @@ module _ {s : List ℕ} {c : Cursor} (g : Got) (x : Pulls s c 9 g) (z : g .c .wh
     where
       go : Pulled s c 9 g → c .at + 9 ≤ c .end
       go (stuck h q) = absurd (h (rw q at z))
-      go (short h l q) = absurd (let y : 4 ≡ 0 = rw q at z in omega arith)
+      go (short h l q) = absurd (let y = rw q at z in omega arith)
       go (got h l v q) = l
 
   going : Inside s c → c .why ≡ 0

@@ -49,7 +49,7 @@ fn at_end(c: Cursor, why: u64) -> Cursor
     }
 }
 
-// The window ends before the ninth presence bit. Without a set one the clearance is kept, with nothing in it; else the part that is there runs out.
+// The window ends before the ninth presence bit. Without a set one the clearance is kept, with nothing in it; else the part that is there runs out; the presence bit that passed the end was the first to lack a bit.
 fn read_clipped(s: &[u8], words: &mut [u64], n: usize, c: Cursor, place: u64) -> At
     requires { ⌜ (n < 2 ^ 31) × (c .why ≡ 0) × (Inside (now s) c → c .end < c .at + 9) ⌝ }
     ensures { λ r. ⌜ Runs 1 (λ e p. read routeClearance (0, place) (bitOf (now (s .entry))) e p) (now (s .entry)) c n (now (words .entry)) (now (words .exit)) r ⌝ }
@@ -60,7 +60,7 @@ fn read_clipped(s: &[u8], words: &mut [u64], n: usize, c: Cursor, place: u64) ->
         let m = emit(words, n, 80, 0, place, 0);
         return At { n: m, c: d };
     }
-    let d = at_end(c, 4);
+    let d = at_end(c, 20);
     At { n: n, c: d }
 }
 

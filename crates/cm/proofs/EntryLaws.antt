@@ -2,7 +2,7 @@
 use mathlib.Core.Path.{_≡_, refl}
 use mathlib.Core.Bool.{false}
 use mathlib.Core.List.{List}
-use Prim.Native.Nat.{ℕ, _*_}
+use Prim.Native.Nat.{ℕ, _+_, _*_, _/_, _%_}
 use native.Mathlib.Omega.{arith}
 use lib.ListN.{length}
 use Rattle.x691.specs.Bits.{bitOf}
@@ -26,11 +26,14 @@ module _ (f : Fmt) (s : List ℕ) where
   abbrev Frame : ℕ → ℕ → Ans
   Frame e p = read f (0, 0) (bitOf s) e p
 
-  led-stop : {d : Cursor} {R : List Rec} {w v : List ℕ} → v ≡ w → (d .why ≡ 0 → ⊥) → Led Frame (start s) d R → _≡_ {A = Outcome} (refused (d .why) (d .at) 0, v) (settle (readFrame f s) w)
+  led-stop : {d : Cursor} {R : List Rec} {w v : List ℕ} → v ≡ w → (d .why ≡ 0 → ⊥) → Led Frame (start s) d R → _≡_ {A = Outcome} (refused (d .why % 16) (d .at) 0 (d .why / 16), v) (settle (readFrame f s) w)
   unfolding readFrame reply entries.stopped
   led-stop y n (stayed h q) = absurd (h refl)
   led-stop y n (went p m z a l q) = absurd (n (rw q refl))
-  led-stop y n (failed out p m S k z a l q) = rw q (settle-out y (rw a))
+  led-stop y n (failed (out i) p m S k z a l q) =
+      let number : (4 + 16 * i) % 16 ≡ 4 = omega arith in
+      let lacked : (4 + 16 * i) / 16 ≡ i = omega arith in
+      rw (q, number, lacked) (settle-out y (rw a))
   led-stop y n (failed bad p m S k z a l q) = rw q (settle-bad y (rw a))
   led-stop y n (failed lack p m S k z a l q) = rw q (settle-lack y (rw a))
   led-stop y n (failed (quit o j i) p m S k z a l q) = absurd (k refl)
@@ -48,7 +51,7 @@ module _ (f : Fmt) (s : List ℕ) where
 
 module _ {f : Fmt} {s : List ℕ} {d : Cursor} {T : ℕ → List Rec} (x : Takes f s (start s) d T) where
   -- a reading that stopped is refused, by its own number
-  pub frame-refused : {w v : List ℕ} → v ≡ w → (d .why ≡ 0 → ⊥) → _≡_ {A = Outcome} (refused (d .why) (d .at) 0, v) (settle (readFrame f s) w)
+  pub frame-refused : {w v : List ℕ} → v ≡ w → (d .why ≡ 0 → ⊥) → _≡_ {A = Outcome} (refused (d .why % 16) (d .at) 0 (d .why / 16), v) (settle (readFrame f s) w)
   frame-refused y n = led-stop f s y n (x .took (0, 0) .led (at-start s))
 
   pub frame-accepted : d .why ≡ 0 → readFrame f s ≡ accept false (d .at) (d .marks) (T 0)

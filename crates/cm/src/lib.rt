@@ -23,10 +23,10 @@ pub fn parse_cm(frame: &[u8], direction: u64, words: &mut [u64]) -> Answer
     ensures { λ r. ⌜ Says r (now (words .exit)) (parse-cm (now (frame .entry)) direction (now (words .entry))) ⌝ }
 {
     if LONGEST < frame.len() {
-        return refused(1, 0, 0);
+        return refused(1, 0, 0, 0);
     }
     if 1 < direction {
-        return refused(3, 0, 0);
+        return refused(3, 0, 0, 0);
     }
     answer(frame, words, direction == 1)
 }
@@ -47,11 +47,11 @@ fn answer(frame: &[u8], words: &mut [u64], ground: bool) -> Answer
     let tried = pdu(&mut spare, first, frame, ground);
     let c = tried.c;
     if c.why != 0 {
-        return refused(c.why, c.at, 0);
+        return refused(c.why % 16, c.at, 0, (c.why / 16) as usize);
     }
     let need = words_for(tried.n);
     if words.len() < need {
-        return refused(7, c.at, need);
+        return refused(7, c.at, need, 0);
     }
     if need <= CM_SPARE {
         copy(&spare[..need], words);
@@ -73,12 +73,13 @@ fn accepted(reach: usize, marks: u64, count: usize) -> Answer
     }
 }
 
-fn refused(number: u64, reach: usize, need: usize) -> Answer
-    ensures { λ r. ⌜ r ≡ Refused number reach need ⌝ }
+fn refused(number: u64, reach: usize, need: usize, lacked: usize) -> Answer
+    ensures { λ r. ⌜ r ≡ Refused number reach need lacked ⌝ }
 {
     Answer::Refused {
         number: number,
         reach: reach,
         need: need,
+        lacked: lacked,
     }
 }

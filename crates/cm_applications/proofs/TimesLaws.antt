@@ -19,63 +19,63 @@ use Rattle.cm_applications.specs.Applications.{At}
 then-same : (a : Ans) (k l : ℕ → Ans) → ((p : ℕ) → k p ≡ l p) → then a k ≡ then a l
 unfolding then
 then-same (ok p R m) k l h = rw (h p)
-then-same (past p R m) k l h = rw (h p)
+then-same (past lacked p R m) k l h = rw (h p)
 then-same (stop w p R m) k l h = refl
 
 then-ok : (a : Ans) → then a (λ p. ok p [] 0) ≡ a
 unfolding then glue late
 then-ok (ok p R m) = rw (append-nil R, or-nil m)
-then-ok (past p R m) = rw (append-nil R, or-nil m)
+then-ok (past lacked p R m) = rw (append-nil R, or-nil m)
 then-ok (stop w p R m) = refl
 
-tardy-tardy : (w : Why) → tardy (tardy w) ≡ tardy w
+tardy-tardy : (i j : ℕ) (w : Why) → tardy i (tardy j w) ≡ tardy i w
 unfolding tardy
-tardy-tardy out = refl
-tardy-tardy bad = refl
-tardy-tardy lack = refl
-tardy-tardy (quit o j m) = refl
+tardy-tardy i j (out lacked) = refl
+tardy-tardy i j bad = refl
+tardy-tardy i j lack = refl
+tardy-tardy i j (quit o l m) = refl
 
 module _ (R : List Rec) (m : ℕ) where
   glue-glue : (S : List Rec) (n : ℕ) (a : Ans) → glue (R ++ S) (or m n) a ≡ glue R m (glue S n a)
   unfolding glue
   glue-glue S n (ok p T l) = rw (append-assoc R S T, or-assoc m n l)
-  glue-glue S n (past p T l) = rw (append-assoc R S T, or-assoc m n l)
+  glue-glue S n (past lacked p T l) = rw (append-assoc R S T, or-assoc m n l)
   glue-glue S n (stop w p T l) = rw (append-assoc R S T, or-assoc m n l)
 
-  glue-late : (S : List Rec) (n : ℕ) (a : Ans) → late (R ++ S) (or m n) a ≡ glue R m (late S n a)
+  glue-late : (i : ℕ) (S : List Rec) (n : ℕ) (a : Ans) → late i (R ++ S) (or m n) a ≡ glue R m (late i S n a)
   unfolding glue late
-  glue-late S n (ok p T l) = rw (append-assoc R S T, or-assoc m n l)
-  glue-late S n (past p T l) = rw (append-assoc R S T, or-assoc m n l)
-  glue-late S n (stop w p T l) = rw (append-assoc R S T, or-assoc m n l)
+  glue-late i S n (ok p T l) = rw (append-assoc R S T, or-assoc m n l)
+  glue-late i S n (past lacked p T l) = rw (append-assoc R S T, or-assoc m n l)
+  glue-late i S n (stop w p T l) = rw (append-assoc R S T, or-assoc m n l)
 
-  late-glue : (S : List Rec) (n : ℕ) (a : Ans) → late (R ++ S) (or m n) a ≡ late R m (glue S n a)
+  late-glue : (i : ℕ) (S : List Rec) (n : ℕ) (a : Ans) → late i (R ++ S) (or m n) a ≡ late i R m (glue S n a)
   unfolding glue late
-  late-glue S n (ok p T l) = rw (append-assoc R S T, or-assoc m n l)
-  late-glue S n (past p T l) = rw (append-assoc R S T, or-assoc m n l)
-  late-glue S n (stop w p T l) = rw (append-assoc R S T, or-assoc m n l)
+  late-glue i S n (ok p T l) = rw (append-assoc R S T, or-assoc m n l)
+  late-glue i S n (past lacked p T l) = rw (append-assoc R S T, or-assoc m n l)
+  late-glue i S n (stop w p T l) = rw (append-assoc R S T, or-assoc m n l)
 
-  late-late : (S : List Rec) (n : ℕ) (a : Ans) → late (R ++ S) (or m n) a ≡ late R m (late S n a)
+  late-late : (i j : ℕ) (S : List Rec) (n : ℕ) (a : Ans) → late i (R ++ S) (or m n) a ≡ late i R m (late j S n a)
   unfolding glue late
-  late-late S n (ok p T l) = rw (append-assoc R S T, or-assoc m n l)
-  late-late S n (past p T l) = rw (append-assoc R S T, or-assoc m n l)
-  late-late S n (stop w p T l) = rw (append-assoc R S T, or-assoc m n l, tardy-tardy w)
+  late-late i j S n (ok p T l) = rw (append-assoc R S T, or-assoc m n l)
+  late-late i j S n (past lacked p T l) = rw (append-assoc R S T, or-assoc m n l)
+  late-late i j S n (stop w p T l) = rw (append-assoc R S T, or-assoc m n l, tardy-tardy i j w)
 
   glue-then : (a : Ans) (l : ℕ → Ans) → then (glue R m a) l ≡ glue R m (then a l)
   unfolding then glue
   glue-then (ok p S n) l = glue-glue S n (l p)
-  glue-then (past p S n) l = glue-late S n (l p)
+  glue-then (past lacked p S n) l = glue-late lacked S n (l p)
   glue-then (stop w p S n) l = refl
 
-  late-then : (a : Ans) (l : ℕ → Ans) → then (late R m a) l ≡ late R m (then a l)
+  late-then : (i : ℕ) (a : Ans) (l : ℕ → Ans) → then (late i R m a) l ≡ late i R m (then a l)
   unfolding then late glue
-  late-then (ok p S n) l = late-glue S n (l p)
-  late-then (past p S n) l = late-late S n (l p)
-  late-then (stop w p S n) l = refl
+  late-then i (ok p S n) l = late-glue i S n (l p)
+  late-then i (past lacked p S n) l = late-late i lacked S n (l p)
+  late-then i (stop w p S n) l = refl
 
 then-then : (a : Ans) (k l : ℕ → Ans) → then (then a k) l ≡ then a (λ p. then (k p) l)
 unfolding then
 then-then (ok p R m) k l = glue-then R m (k p) l
-then-then (past p R m) k l = late-then R m (k p) l
+then-then (past lacked p R m) k l = late-then R m lacked (k p) l
 then-then (stop w p R m) k l = refl
 
 ---------------------------------------------------------------- lists

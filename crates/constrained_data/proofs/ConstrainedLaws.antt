@@ -2,7 +2,7 @@
 use mathlib.Core.Path.{_≡_, refl, sym, _∙_}
 use mathlib.Core.Bool.{Bool, true, false}
 use mathlib.Core.List.{List, [], _∷_, _++_}
-use Prim.Native.Nat.{ℕ, _+_, _-_, _≤_}
+use Prim.Native.Nat.{ℕ, _+_, _-_, _%_, _≤_}
 use native.Mathlib.Omega.{arith}
 use lib.Dec.{leb}
 use borrow.Author.Tests.{leb-true, leb-false}
@@ -40,9 +40,9 @@ unfolding times
 two-attempts b e at = then-same (attempt b 1 e at) _ _ (λ q. sym (then-end (attempt b 2 e q)))
 
 -- a second clearance behind one that has passed the window's end
-second-beyond : (b : ℕ → ℕ) (e at : ℕ) (R : List Rec) (m : ℕ) → attempt b 1 e at ≡ past e R m → then (attempt b 1 e at) (λ q. attempt b 2 e q) ≡ past e (R ++ (rec 80 0 2 0 ∷ [])) m
+second-beyond : (b : ℕ → ℕ) (e at l : ℕ) (R : List Rec) (m : ℕ) → attempt b 1 e at ≡ past l e R m → then (attempt b 1 e at) (λ q. attempt b 2 e q) ≡ past l e (R ++ (rec 80 0 2 0 ∷ [])) m
 unfolding then late laxly
-second-beyond b e at R m h = rw (h, clearance-beyond 2 b e, or-nil m)
+second-beyond b e at l R m h = rw (h, clearance-beyond 2 b e, or-nil m)
 
 given-seven : (j : Bool) → given j ≡ 7 → ⊥
 given-seven true h = omega arith
@@ -79,15 +79,15 @@ module _ {s : List ℕ} {c : Cursor} {n : ℕ} where
         go : Inside s c → Ran (λ e p. attempt (bitOf s) 1 e p) c (x .c) (f .recs) → Ran (λ e p. attempts (bitOf s) 2 e p) c (x .c) (f .recs ++ (rec 80 0 2 0 ∷ []))
         go i (stayed g q r) = absurd (g z)
         go i (went p m y e l q) = absurd (let u : 0 ≡ 7 = rw q at h in omega arith)
-        go i (passed p m y e l q) =
+        go i (passed lacked p m y e l q) =
             let o : p ≡ c .end = attempt-end 1 (bitOf s) (c .end) (c .at) (i .0) e in
-            passed p m y (sym (two-attempts (bitOf s) (c .end) (c .at)) ∙ second-beyond (bitOf s) (c .end) (c .at) (f .recs) m (rw o at e) ∙ rw o) l q
+            passed lacked p m y (sym (two-attempts (bitOf s) (c .end) (c .at)) ∙ second-beyond (bitOf s) (c .end) (c .at) lacked (f .recs) m (rw o at e) ∙ rw o) l q
         go i (gaveUp o j v p m y e l q) = absurd (given-seven j (rw q at h))
         go i (failed v p m S g y e l q) = absurd (seven v (rw q at h))
 
 ---------------------------------------------------------------- by their number
 
-attempt-ends : {a : ℕ} (k : ℕ) {s : List ℕ} {c : Cursor} {n : ℕ} {w w₁ : List ℕ} {x : At} → c .why ≡ 0 → Runs a (λ e p. attempt (bitOf s) k e p) s c n w w₁ x → Inside s c → (x .c .why ≡ 4 → ⊥) × (x .c .why ≡ 5 → ⊥)
+attempt-ends : {a : ℕ} (k : ℕ) {s : List ℕ} {c : Cursor} {n : ℕ} {w w₁ : List ℕ} {x : At} → c .why ≡ 0 → Runs a (λ e p. attempt (bitOf s) k e p) s c n w w₁ x → Inside s c → (x .c .why % 16 ≡ 4 → ⊥) × (x .c .why ≡ 5 → ⊥)
 attempt-ends k {s} z f i = lax-ends (λ e p. read routeClearance (0, k) (bitOf s) e p) 7 true z (f .ran i)
 
 module _ {b m : ℕ} {s : List ℕ} {c : Cursor} {n : ℕ} (z : c .why ≡ 0) where
@@ -116,12 +116,12 @@ module _ {b m : ℕ} {s : List ℕ} {c : Cursor} {n : ℕ} (z : c .why ≡ 0) wh
 module _ {k : ℕ → ℕ → Ans} {c d f : Cursor} where
   -- nothing was told
   pub lax-excused : c .why ≡ 0 → Ran k c d [] → Excused d f → Ran (λ e p. laxly 7 true (k e p)) c f []
-  lax-excused z r x = by-why (leb 4 (d .why)) (leb (d .why) 5) refl refl
+  lax-excused z r x = by-why (leb 4 (d .why % 16)) (leb (d .why % 16) 5) refl refl
     where
-      by-why : (t u : Bool) → leb 4 (d .why) ≡ t → leb (d .why) 5 ≡ u → Ran (λ e p. laxly 7 true (k e p)) c f []
-      by-why true true q y = let l = leb-true 4 (d .why) q in let h = leb-true (d .why) 5 y in rw (x .given l h) (lax-dropped 7 true z r l h)
-      by-why true false q y = let h = leb-false (d .why) 5 y in rw (x .kept (λ l o. omega arith)) (lax-kept 7 true r (λ e. omega arith) (λ e. omega arith))
-      by-why false u q y = let h = leb-false 4 (d .why) q in rw (x .kept (λ l o. omega arith)) (lax-kept 7 true r (λ e. omega arith) (λ e. omega arith))
+      by-why : (t u : Bool) → leb 4 (d .why % 16) ≡ t → leb (d .why % 16) 5 ≡ u → Ran (λ e p. laxly 7 true (k e p)) c f []
+      by-why true true q y = let l = leb-true 4 (d .why % 16) q in let h = leb-true (d .why % 16) 5 y in rw (x .given l h) (lax-dropped 7 true z r l h)
+      by-why true false q y = let h = leb-false (d .why % 16) 5 y in rw (x .kept (λ l o. omega arith)) (lax-kept 7 true r (λ e. omega arith) (λ e. omega arith))
+      by-why false u q y = let h = leb-false 4 (d .why % 16) q in rw (x .kept (λ l o. omega arith)) (lax-kept 7 true r (λ e. omega arith) (λ e. omega arith))
 
 told-nothing : {w w′ : List ℕ} {n m : ℕ} (R : List Rec) → Told 0 w w′ n m R → R ≡ []
 told-nothing [] t = refl

@@ -2,7 +2,7 @@
 use mathlib.Core.Path.{_≡_, refl, sym, ap, _∙_}
 use mathlib.Core.Bool.{Bool, true, false}
 use mathlib.Core.List.{[]}
-use Prim.Native.Nat.{ℕ, _+_, _≤_, _<_}
+use Prim.Native.Nat.{ℕ, _+_, _-_, _≤_, _<_}
 use native.Mathlib.Omega.{arith}
 use lib.Dec.{leb}
 use borrow.Author.Tests.{leb-true, leb-false}
@@ -41,7 +41,7 @@ module _ (b : ℕ → ℕ) (e : ℕ) where
           let y : at + 1 ≤ e = leb-true _ e h in
           fetch-go b e at 1 _ _ y ∙ then-nil (at + 1) (λ p. readFields (many 1 2 (lax 7 true routeClearance) ⨾? end) (0, 0) b e at p)
           ∙ root-there at ∙ sym (pull-go b e at 1 _ y)
-      by false h = let y : e < at + 1 = leb-false _ e h in fetch-no b e at 1 _ _ y ∙ ap (λ (p : ℕ). stop out p [] 0) (omega arith) ∙ sym (pull-no b e at 1 _ y)
+      by false h = let y : e < at + 1 = leb-false _ e h in let one : at + 1 - e ≡ 1 = omega arith in fetch-no b e at 1 _ _ y ∙ ap (λ (k : ℕ). stop (out k) (at + (e - at)) [] 0) (sym one) ∙ ap (λ (p : ℕ). stop (out (at + 1 - e)) p [] 0) (omega arith) ∙ sym (pull-no b e at 1 _ y)
 
   pub frame-count : (at : ℕ) → read frame (0, 0) b e at ≡ countThen b e at (λ n q. attempts b n e q)
   unfolding read countThen times

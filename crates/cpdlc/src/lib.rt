@@ -45,9 +45,9 @@ pub fn parse_apdu(frame: &[u8], down: &[u8], up: &[u8], words: &mut [u64]) -> An
     }
     let mut spare = [0u64; CPDLC_SPARE];
     let v = try_frame(frame, &mut spare, 0, down, up);
-    if v.why == 4 {
+    if v.why % 16 == 4 {
         let u = try_frame(frame, &mut spare, 1, down, up);
-        let x = after_out(v.reach, u);
+        let x = after_out(v.reach, v.why, u);
         return answer_frame(frame, words, &spare, 1, down, up, x);
     }
     if v.why == 5 {
@@ -60,11 +60,12 @@ pub fn parse_apdu(frame: &[u8], down: &[u8], up: &[u8], words: &mut [u64]) -> An
 
 // Before anything is read.
 fn refused(number: u64) -> Answer
-    ensures { λ r. ⌜ r ≡ Refused number 0 0 ⌝ }
+    ensures { λ r. ⌜ r ≡ Refused number 0 0 0 ⌝ }
 {
     Answer::Refused {
         number: number,
         reach: 0,
         need: 0,
+        lacked: 0,
     }
 }

@@ -53,7 +53,7 @@ module _ (d : ℕ) (down up s : List ℕ) where
   unfolding readFrame reply pduAt or
   ran-whole (stayed h q r) z = absurd (h refl)
   ran-whole (went p m y a l q) z = rw (q, a)
-  ran-whole (passed p m y a l q) z = absurd (let x : _≡_ {A = ℕ} 7 0 = rw q at z in omega arith)
+  ran-whole (passed lacked p m y a l q) z = absurd (let x : _≡_ {A = ℕ} 7 0 = rw q at z in omega arith)
   ran-whole (gaveUp o j t p m y a l q) z = absurd (never-quit d down up s a)
   ran-whole (failed w p m S n y a l q) z = absurd (n (rw q at z))
 
@@ -61,9 +61,9 @@ module _ (d : ℕ) (down up s : List ℕ) where
   unfolding readFrame reply pduAt or
   ran-cut (stayed h q r) z = absurd (h refl)
   ran-cut (went p m y a l q) z = absurd (let x : _≡_ {A = ℕ} 0 7 = rw q at z in omega arith)
-  ran-cut (passed p m y a l q) z = rw (q, a)
+  ran-cut (passed lacked p m y a l q) z = rw (q, a)
   ran-cut (gaveUp o j t p m y a l q) z = absurd (never-quit d down up s a)
-  ran-cut (failed out p m S n y a l q) z = absurd (let x : _≡_ {A = ℕ} 4 7 = rw q at z in omega arith)
+  ran-cut (failed (out lacked) p m S n y a l q) z = absurd (let x = rw q at z in omega arith)
   ran-cut (failed bad p m S n y a l q) z = absurd (let x : _≡_ {A = ℕ} 5 7 = rw q at z in omega arith)
   ran-cut (failed lack p m S n y a l q) z = absurd (let x : _≡_ {A = ℕ} 6 7 = rw q at z in omega arith)
   ran-cut (failed (quit o j t) p m S n y a l q) z = absurd (n refl)
@@ -72,9 +72,9 @@ module _ (d : ℕ) (down up s : List ℕ) where
   unfolding readFrame reply stopped pduAt verdictOf
   ran-refused (stayed h q r) n₀ n₇ = absurd (h refl)
   ran-refused (went p m y a l q) n₀ n₇ = absurd (n₀ (rw q refl))
-  ran-refused (passed p m y a l q) n₀ n₇ = absurd (n₇ (rw q refl))
+  ran-refused (passed lacked p m y a l q) n₀ n₇ = absurd (n₇ (rw q refl))
   ran-refused (gaveUp o j t p m y a l q) n₀ n₇ = absurd (never-quit d down up s a)
-  ran-refused (failed out p m S n y a l q) n₀ n₇ = rw (q, a)
+  ran-refused (failed (out lacked) p m S n y a l q) n₀ n₇ = rw (q, a)
   ran-refused (failed bad p m S n y a l q) n₀ n₇ = rw (q, a)
   ran-refused (failed lack p m S n y a l q) n₀ n₇ = rw (q, a)
   ran-refused (failed (quit o j t) p m S n y a l q) n₀ n₇ = absurd (n refl)
@@ -84,9 +84,9 @@ module _ (d : ℕ) (down up s : List ℕ) where
   unfolding readFrame reply stopped pduAt
   ran-tells (stayed h q r) x = absurd (h refl)
   ran-tells (went p m y a l q) x = let e = rw a at (x .is) in cc
-  ran-tells (passed p m y a l q) x = let e = rw a at (x .is) in cc
+  ran-tells (passed lacked p m y a l q) x = let e = rw a at (x .is) in cc
   ran-tells (gaveUp o j t p m y a l q) x = absurd (never-quit d down up s a)
-  ran-tells (failed out p m S n y a l q) x = let e = rw a at (x .is) in absurd (let z : _≡_ {A = ℕ} 0 1 = cc in omega arith)
+  ran-tells (failed (out lacked) p m S n y a l q) x = let e = rw a at (x .is) in absurd (let z : _≡_ {A = ℕ} 0 1 = cc in omega arith)
   ran-tells (failed bad p m S n y a l q) x = let e = rw a at (x .is) in absurd (let z : _≡_ {A = ℕ} 0 1 = cc in omega arith)
   ran-tells (failed lack p m S n y a l q) x = let e = rw a at (x .is) in absurd (let z : _≡_ {A = ℕ} 0 1 = cc in omega arith)
   ran-tells (failed (quit o j t) p m S n y a l q) x = absurd (n refl)

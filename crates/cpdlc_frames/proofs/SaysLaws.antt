@@ -2,7 +2,7 @@
 use mathlib.Core.Path.{_≡_, refl}
 use mathlib.Core.Bool.{Bool, true, false}
 use mathlib.Core.List.{List, _++_}
-use Prim.Native.Nat.{ℕ, _≤_, _<_}
+use Prim.Native.Nat.{ℕ, _+_, _*_, _/_, _%_, _≤_, _<_}
 use native.Mathlib.Omega.{arith}
 use lib.ListN.{length, take, drop}
 use Rattle.atn.specs.Reading.{Rec}
@@ -23,7 +23,7 @@ use Rattle.cpdlc_frames.proofs.ReadingLaws.{begin, begin-inside, ran-te
 
 module _ (w : List ℕ) (cut : Bool) (v : Verdict) {need : ℕ} (needs : need ≡ space (v .count)) where
   -- the records do not fit
-  pub says-full : length w < need → (R : List Rec) → v .count ≡ length R → Says (Refused 7 (v .reach) need) w (settle (accept cut (v .reach) (v .marks) R) w)
+  pub says-full : length w < need → (R : List Rec) → v .count ≡ length R → Says (Refused 7 (v .reach) need 0) w (settle (accept cut (v .reach) (v .marks) R) w)
   says-full l R e = record { is = settle-full refl refl e needs l }
 
   -- they do, and were written
@@ -39,14 +39,17 @@ pub says-kept : (w k : List ℕ) (cut : Bool) (v : Verdict) {need : ℕ} → nee
 says-kept w k cut v needs l f q h R e t = record { is = settle-kept refl e needs w k l f (h .kept t) q }
 
 module _ {v : Verdict} {w : List ℕ} (u : Reply) (h : v ≡ verdictOf u) where
-  pub says-refused : (v .why ≡ 0 → ⊥) → (v .why ≡ 7 → ⊥) → Says (Refused (v .why) (v .reach) 0) w (settle u w)
+  pub says-refused : (v .why ≡ 0 → ⊥) → (v .why ≡ 7 → ⊥) → Says (Refused (v .why % 16) (v .reach) 0 (v .why / 16)) w (settle u w)
   unfolding verdictOf
   says-refused = go u h
     where
-      go : (u : Reply) → v ≡ verdictOf u → (v .why ≡ 0 → ⊥) → (v .why ≡ 7 → ⊥) → Says (Refused (v .why) (v .reach) 0) w (settle u w)
+      go : (u : Reply) → v ≡ verdictOf u → (v .why ≡ 0 → ⊥) → (v .why ≡ 7 → ⊥) → Says (Refused (v .why % 16) (v .reach) 0 (v .why / 16)) w (settle u w)
       go (accept false p m R) q n₀ n₇ = absurd (n₀ (rw q refl))
       go (accept true p m R) q n₀ n₇ = absurd (n₇ (rw q refl))
-      go (ranOut p) q n₀ n₇ = rw q (record { is = settle-out refl refl })
+      go (ranOut p k) q n₀ n₇ =
+          let number : (4 + 16 * k) % 16 ≡ 4 = omega arith in
+          let lacked : (4 + 16 * k) / 16 ≡ k = omega arith in
+          rw (q, number, lacked) (record { is = settle-out refl refl })
       go (badly p) q n₀ n₇ = rw q (record { is = settle-bad refl refl })
       go (unsupplied p) q n₀ n₇ = rw q (record { is = settle-lack refl refl })
 
@@ -54,7 +57,7 @@ pub says-whole : (w : List ℕ) {a : Answer} {v : Verdict} {w′ : List ℕ} {r 
 unfolding verdictOf
 says-whole w z f (accept false p m R) h x = rw h at (f R (rw h refl) (x .follows (record { cut = false; reach = p; marks = m; is = refl })))
 says-whole w z f (accept true p m R) h x = absurd (let y : _≡_ {A = ℕ} 7 0 = rw h at z in omega arith)
-says-whole w z f (ranOut p) h x = absurd (let y : _≡_ {A = ℕ} 4 0 = rw h at z in omega arith)
+says-whole w z f (ranOut p lacked) h x = absurd (let y = rw h at z in omega arith)
 says-whole w z f (badly p) h x = absurd (let y : _≡_ {A = ℕ} 5 0 = rw h at z in omega arith)
 says-whole w z f (unsupplied p) h x = absurd (let y : _≡_ {A = ℕ} 6 0 = rw h at z in omega arith)
 
@@ -62,6 +65,6 @@ pub says-cut : (w : List ℕ) {a : Answer} {v : Verdict} {w′ : List ℕ} {r : 
 unfolding verdictOf
 says-cut w z f (accept false p m R) h x = absurd (let y : _≡_ {A = ℕ} 0 7 = rw h at z in omega arith)
 says-cut w z f (accept true p m R) h x = rw h at (f R (rw h refl) (x .follows (record { cut = true; reach = p; marks = m; is = refl })))
-says-cut w z f (ranOut p) h x = absurd (let y : _≡_ {A = ℕ} 4 7 = rw h at z in omega arith)
+says-cut w z f (ranOut p lacked) h x = absurd (let y = rw h at z in omega arith)
 says-cut w z f (badly p) h x = absurd (let y : _≡_ {A = ℕ} 5 7 = rw h at z in omega arith)
 says-cut w z f (unsupplied p) h x = absurd (let y : _≡_ {A = ℕ} 6 7 = rw h at z in omega arith)

@@ -82,6 +82,7 @@ fn write_frame(
             number: 7,
             reach: v.reach,
             need: need,
+            lacked: 0,
         };
     }
     if need <= spare.len() {
@@ -131,8 +132,9 @@ pub fn answer_frame(
         return write_frame(frame, words, spare, direction, down, up, true, v);
     }
     Answer::Refused {
-        number: v.why,
+        number: v.why % 16,
         reach: v.reach,
         need: 0,
+        lacked: (v.why / 16) as usize,
     }
 }

@@ -164,7 +164,7 @@ takes-opened {fs} {s} {c} {d} {T} n g f a o h = record { took = λ x. record { l
     go x i (ranShort z l q) r =
         let e : c .at + (c .end - c .at) ≡ c .end = omega (arith, i .0) in
         let m = read-unmarked fs (within (bitOf s) (c .end)) (c .at) a in
-        failed out (c .end) 0 [] (λ y. omega arith) z (fetch-no (bitOf s) (c .end) (c .at) (flags fs) _ _ (omega arith) ∙ rw (e, m)) (omega arith)
+        failed (out 1) (c .end) 0 [] (λ y. omega arith) z (fetch-no (bitOf s) (c .end) (c .at) (flags fs) _ _ (omega arith) ∙ rw (e, m)) (omega arith)
         (led-stays _ (g .c) d (rw q (λ y. omega arith)) (r .led (rw q (omega arith, i .1))) ∙ q ∙ rw (or-nil (c .marks)))
     go x i (opened z l v q) r =
         led-from (λ u p. readFields fs x (bitOf s) u (c .at) p) (λ u p. read (seq fs) x (bitOf s) u p) z q
@@ -200,7 +200,7 @@ opened-bit {s} {c} {n} {g} j i o l z = go (o .gave i)
   where
     go : Opened s c n g → g .v / 2 ^ (n - 1 - j) % 2 ≡ bitOf s (c .at + j)
     go (shutAlready h q) = absurd (h (rw q at z))
-    go (ranShort h k q) = absurd (let y : 4 ≡ 0 = rw q at z in omega arith)
+    go (ranShort h k q) = absurd (let y : number (out 1) ≡ 0 = rw q at z in omega arith)
     go (opened h k v q) = rw v (bit-of s (c .at) j (n - 1 - j) n (omega arith))
 
 -- the last of them

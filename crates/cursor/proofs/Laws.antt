@@ -108,7 +108,7 @@ module _ {s : List ℕ} {c d : Cursor} {R : List Rec} (n : ℕ) (g : Got) (k : �
   pulled-then : Inside s c → Pulled s c n g → Led (λ u p. k (g .v) u p) (g .c) d R → Led (Behind s n k) c d R
   pulled-then i (stuck h q) r = stayed h (led-stays _ (g .c) d (rw q h) r ∙ q)
   pulled-then i (short z l q) r =
-      failed out (c .at) 0 [] (λ x. omega arith) z (pull-no (bitOf s) (c .end) (c .at) n _ l) (i .0) (led-stays _ (g .c) d (rw q (λ x. omega arith)) r ∙ q ∙ rw (or-nil (c .marks)))
+      failed (out (c .at + n - c .end)) (c .at) 0 [] (λ x. omega arith) z (pull-no (bitOf s) (c .end) (c .at) n _ l) (i .0) (led-stays _ (g .c) d (rw q (λ x. omega arith)) r ∙ q ∙ rw (or-nil (c .marks)))
   pulled-then i (got z l v q) r = led-from (λ u p. k (g .v) u p) (Behind s n k) z q (sym (pull-go (bitOf s) (c .end) (c .at) n _ l ∙ rw (← v))) r
 
   -- n bits, and what follows them

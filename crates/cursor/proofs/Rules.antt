@@ -1,13 +1,14 @@
 -- From what a branch of the code knows to what was read.
-use mathlib.Core.Path.{_≡_, refl, ap}
+use mathlib.Core.Path.{_≡_, refl, ap, _∙_}
 use mathlib.Core.List.{List}
-use Prim.Native.Nat.{ℕ, _+_, _*_, _%_, _^_, _≤_, _<_}
+use Prim.Native.Nat.{ℕ, _+_, _-_, _*_, _%_, _^_, _≤_, _<_}
 use native.Mathlib.Omega.{arith}
 use lib.ListN.{length}
 use Rattle.x691.specs.Bits.{bitOf, uint}
+use Rattle.atn.specs.Format.{out}
 use Rattle.cursor.specs.declared.place.Cursor.{Cursor}
 use Rattle.cursor.specs.declared.place.Got.{Got}
-use Rattle.cursor.specs.Place.{put, Inside, Pulled, Pulls, stuck, short, got, Opened, shutAlready, ranShort, opened, Opens}
+use Rattle.cursor.specs.Place.{number, put, Inside, Pulled, Pulls, stuck, short, got, Opened, shutAlready, ranShort, opened, Opens}
 
 module _ (s : List ℕ) (c : Cursor) (n : ℕ) where
   pub pulls-stuck : (c .why ≡ 0 → ⊥) → Pulls s c n (record { v = 0; c = c })
@@ -19,8 +20,8 @@ module _ (s : List ℕ) (c : Cursor) (n : ℕ) where
         → Pulls s c n (record { v = v; c = put c p 0 (c .marks) })
     pulls-got l v q = record { gave = λ i. got goes (omega (arith, i .0)) (v (omega (arith, i .0, i .1))) (ap (λ (x : ℕ). put c x 0 (c .marks)) (omega (arith, i .0))) }
 
-    pub pulls-short : left < n → Pulls s c n (record { v = 0; c = put c (c .at) 4 (c .marks) })
-    pulls-short l = record { gave = λ i. short goes (omega (arith, i .0)) refl }
+    pub pulls-short : {w : ℕ} → left < n → w ≡ number (out (n - left)) → Pulls s c n (record { v = 0; c = put c (c .at) w (c .marks) })
+    pulls-short l q = record { gave = λ i. short goes (omega (arith, i .0)) (ap (λ (x : ℕ). put c (c .at) x (c .marks)) (q ∙ ap (λ (k : ℕ). number (out k)) (omega (arith, i .0)))) }
 
 -- presence bits, from the bits that were asked for
 module _ (s : List ℕ) (c : Cursor) (n : ℕ) {g : Got} (p : Pulls s c n g) where
@@ -37,13 +38,13 @@ module _ (s : List ℕ) (c : Cursor) (n : ℕ) {g : Got} (p : Pulls s c n g) whe
     where
       go : Pulled s c n g → Opened s c n g
       go (stuck y q) = absurd (y h)
-      go (short z l q) = absurd (let y : 4 ≡ 0 = rw q at k in omega arith)
+      go (short z l q) = absurd (let y : number (out (c .at + n - c .end)) ≡ 0 = rw q at k in omega arith)
       go (got z l v q) = opened z l v q
 
-  pub opens-short : c .why ≡ 0 → (g .c .why ≡ 0 → ⊥) → Opens s c n (record { v = 0; c = put c (c .end) 4 (c .marks) })
+  pub opens-short : c .why ≡ 0 → (g .c .why ≡ 0 → ⊥) → Opens s c n (record { v = 0; c = put c (c .end) (number (out 1)) (c .marks) })
   opens-short h k = record { gave = λ i. go (p .gave i) }
     where
-      go : Pulled s c n g → Opened s c n (record { v = 0; c = put c (c .end) 4 (c .marks) })
+      go : Pulled s c n g → Opened s c n (record { v = 0; c = put c (c .end) (number (out 1)) (c .marks) })
       go (stuck y q) = absurd (y h)
       go (short z l q) = ranShort z l refl
       go (got z l v q) = absurd (k (rw q refl))

@@ -2,7 +2,7 @@
 use mathlib.Core.Path.{_≡_}
 use mathlib.Core.Bool.{Bool, true, false, cond}
 use mathlib.Core.List.{List, [], _∷_}
-use Prim.Native.Nat.{ℕ, _+_, _*_, _≤_, _<_}
+use Prim.Native.Nat.{ℕ, _+_, _-_, _*_, _≤_, _<_}
 use lib.ListN.{length}
 use lib.Dec.{eqb}
 use Rattle.x691.specs.Bits.{bitOf, uint}
@@ -11,9 +11,9 @@ use Rattle.atn.specs.Reading.{Rec, rec, Ctx, Ans, ok, past, stop, or, read}
 use Rattle.cursor.specs.declared.place.Cursor.{Cursor}
 use Rattle.cursor.specs.declared.place.Got.{Got}
 
--- document 01's number
+-- document 01's number, and 16 times the bits lacked where it ran out
 abbrev pub number : Why → ℕ
-number out = 4
+number (out k) = 4 + 16 * k
 number bad = 5
 number lack = 6
 number (quit o j m) = 0
@@ -32,19 +32,19 @@ marked c m = stopped c 0 m
 abbrev pub Inside : List ℕ → Cursor → Type 0
 Inside s c = (c .at ≤ c .end) × (c .end ≤ length s * 8)
 
--- What n bits gave: nothing behind a failure; ran out without moving; or the number.
+-- What n bits gave: nothing behind a failure; ran out without moving, with the bits lacked; or the number.
 pub data Pulled (s : List ℕ) (c : Cursor) (n : ℕ) (g : Got) : Type 0 where
   stuck : (c .why ≡ 0 → ⊥) → g .c ≡ c → Pulled s c n g
-  short : c .why ≡ 0 → c .end < c .at + n → g .c ≡ put c (c .at) 4 (c .marks) → Pulled s c n g
+  short : c .why ≡ 0 → c .end < c .at + n → g .c ≡ put c (c .at) (number (out (c .at + n - c .end))) (c .marks) → Pulled s c n g
   got : c .why ≡ 0 → c .at + n ≤ c .end → g .v ≡ uint (bitOf s) (c .at) n → g .c ≡ put c (c .at + n) 0 (c .marks) → Pulled s c n g
 
 pub record Pulls (s : List ℕ) (c : Cursor) (n : ℕ) (g : Got) : Type 0 where
   pub gave : Inside s c → Pulled s c n g
 
--- What n presence bits gave: as above, but they are taken one after another, so that what is there of them counts.
+-- What n presence bits gave: as above, but they are taken one after another, so that what is there of them counts, and the next lacks its one bit.
 pub data Opened (s : List ℕ) (c : Cursor) (n : ℕ) (g : Got) : Type 0 where
   shutAlready : (c .why ≡ 0 → ⊥) → g .c ≡ c → Opened s c n g
-  ranShort : c .why ≡ 0 → c .end < c .at + n → g .c ≡ put c (c .end) 4 (c .marks) → Opened s c n g
+  ranShort : c .why ≡ 0 → c .end < c .at + n → g .c ≡ put c (c .end) (number (out 1)) (c .marks) → Opened s c n g
   opened : c .why ≡ 0 → c .at + n ≤ c .end → g .v ≡ uint (bitOf s) (c .at) n → g .c ≡ put c (c .at + n) 0 (c .marks) → Opened s c n g
 
 pub record Opens (s : List ℕ) (c : Cursor) (n : ℕ) (g : Got) : Type 0 where

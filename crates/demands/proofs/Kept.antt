@@ -17,14 +17,14 @@ use Rattle.demands.specs.Promises.{Alike, Ended, RoomFor, Promises}
 -- an answer is known by its number and values
 unfoldable kind : entries.Answer → ℕ
 kind (accepted c p m k) = 0
-kind (refused n p k) = 1
+kind (refused n p k l) = 1
 
 pub answers-same : (r q : Answer) → answerOf r ≡ answerOf q → r ≡ q
 unfolding kind
 answers-same (Accepted c p m k) (Accepted d o n l) e = cc
-answers-same (Accepted c p m k) (Refused n o l) e = absurd (let y : _≡_ {A = ℕ} 0 1 = ap kind e in omega arith)
-answers-same (Refused n p k) (Accepted d o m l) e = absurd (let y : _≡_ {A = ℕ} 1 0 = ap kind e in omega arith)
-answers-same (Refused n p k) (Refused m o l) e = cc
+answers-same (Accepted c p m k) (Refused n o l i) e = absurd (let y : _≡_ {A = ℕ} 0 1 = ap kind e in omega arith)
+answers-same (Refused n p k i) (Accepted d o m l) e = absurd (let y : _≡_ {A = ℕ} 1 0 = ap kind e in omega arith)
+answers-same (Refused n p k i) (Refused m o l j) e = cc
 
 pub says-is : {r q : Answer} {w v : List ℕ} {o : Outcome} → Says r w o → o ≡ (answerOf q, v) → (r ≡ q) × (w ≡ v)
 says-is {r} {q} x e = let y = x .is ∙ e in (answers-same r q (ap (λ (o : Outcome). o .0) y), ap (λ (o : Outcome). o .1) y)
@@ -34,13 +34,13 @@ shares x = record { limit = x .limit; bits = x .bits; there = x .there; room = x
 
 enough : (r : Reply) (w : List ℕ) → RoomFor r w → Enough r w
 enough (accept c p m R) w h = h
-enough (ranOut p) w h = h
+enough (ranOut p lacked) w h = h
 enough (badly p) w h = h
 enough (unsupplied p) w h = h
 
 ends : {r : Answer} {w : List ℕ} {o : Outcome} → Says r w o → CutOrOut o → Ended r
 ends {r} x (cut p m k w) = let e : r ≡ Accepted true p m k = says-is x refl .0 in rw e refl
-ends {r} x (ended p w) = let e : r ≡ Refused 4 p 0 = says-is x refl .0 in rw e refl
+ends {r} x (ended p l w) = let e : r ≡ Refused 4 p 0 l = says-is x refl .0 in rw e refl
 
 pub promises : {ts : List Test} (F : List ℕ → Reply) (P : List ℕ → List ℕ → Outcome) → Owes ts F P → Promises F P
 promises F P o =
@@ -51,11 +51,14 @@ promises F P o =
           let h = o .whole s t w v (sym (x .is)) (shares a) in
           let e = says-is {r = r} {q = Accepted false p m k} y (h .3) in
           (e .0, (h .0, h .1, h .2, e .1));
-      badlyFormed = λ s t w v {p} {k} {r} x a y. says-is {r = r} {q = Refused 5 p k} y (o .badlyFormed s t w v (sym (x .is)) (shares a));
+      badlyFormed = λ s t w v {p} {k} {l} {r} x a y. says-is {r = r} {q = Refused 5 p k l} y (o .badlyFormed s t w v (sym (x .is)) (shares a));
       cutShort = λ s w v j x l h y. ends y (o .cutShort s w v j (sym (x .is)) l (enough (F (take j s)) v h));
       noRoom = λ s w x.
           let h = o .noRoom s w (sym (x .is)) in
           let n = h .2 in
           (n .cut, n .marks, n .recs, n .replied, n .needs, n .full);
       within = λ s w x. o .within s w (sym (x .is));
+      lackedNone = λ s w x n. o .lackedNone s w (sym (x .is)) n;
+      lackedSome = λ s w x. o .lackedSome s w (sym (x .is));
+      longer = λ s t w v x a y. o .longer s t w v (sym (x .is)) (record { bits = a .bits; more = a .more }) (sym (y .is));
     }

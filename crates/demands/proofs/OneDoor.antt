@@ -16,10 +16,10 @@ module _ (s : List ℕ) (d : ℕ) (w : List ℕ) where
   unfolding parse-cm enter
   as-before h = rw h (behind (frame-fits s) 1 3 (readFrame (cmOf d) s) w)
 
-  pub another-direction : frame-fits s ≡ true → direction-fits d ≡ false → _≡_ {A = Outcome} (parse-cm s d w) (refused 3 0 0, w)
+  pub another-direction : frame-fits s ≡ true → direction-fits d ≡ false → _≡_ {A = Outcome} (parse-cm s d w) (refused 3 0 0 0, w)
   unfolding parse-cm enter decide
   another-direction l h = rw (l, h)
 
-  pub length-first : frame-fits s ≡ false → _≡_ {A = Outcome} (parse-cm s d w) (refused 1 0 0, w)
+  pub length-first : frame-fits s ≡ false → _≡_ {A = Outcome} (parse-cm s d w) (refused 1 0 0 0, w)
   unfolding parse-cm enter decide
   length-first l = rw l

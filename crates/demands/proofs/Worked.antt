@@ -4,6 +4,7 @@ use mathlib.Core.List.{List, [], _∷_, map}
 use Prim.Native.Nat.{ℕ, _-_, _*_, _≤_}
 use native.Mathlib.Omega.{arith}
 use lib.ListN.{length}
+use borrow.Author.Tests.{ne-eqb}
 use Rattle.x691.specs.Bits.{bitOf}
 use Rattle.x691.specs.Types.{extent}
 use Rattle.x691.specs.Encoding.{width}
@@ -30,7 +31,7 @@ module _ (k : ℕ → ℕ → Ans) (s : List ℕ) (p : ℕ) (d : Cursor) (v : �
   led-one : Led k (from s p) d (rec 0 0 v 0 ∷ []) → found (d .why) (d .marks) v ≡ one (k (length s * 8) p)
   led-one (stayed h q) = absurd (h refl)
   led-one (went o m z a l q) = rw (q, a, one-told o v m, or-commutes 0 m, or-nil m)
-  led-one (failed out o m S n z a l q) = rw (q, a, one-out o m S)
+  led-one (failed (out lacked) o m S n z a l q) = rw (q, a, ne-eqb (number (out lacked)) 0 n, ne-eqb (number (out lacked)) 5 (λ y. omega arith), one-out lacked o m S)
   led-one (failed format.bad o m S n z a l q) = rw (q, a, one-bad o m S)
   led-one (failed lack o m S n z a l q) = rw (q, a, one-lack o m S)
   led-one (failed (quit x y m′) o m S n z a l q) = absurd (n refl)

@@ -28,19 +28,30 @@ pub fn answer(space: &mut [u8], o: Output, a: Answer, words: &[u64]) -> Output
             number,
             reach,
             need,
+            lacked,
         } => {
-            let o = refusal(space, o, number, reach, need);
+            let o = refusal(space, o, number, reach, need, lacked);
             end(space, o, stayed(words, 0))
         }
     }
 }
 
-// The need stands behind 7 alone.
-fn refusal(space: &mut [u8], o: Output, number: u64, reach: usize, need: usize) -> Output
+// The need stands behind 7 alone, the bits lacked behind 4.
+fn refusal(
+    space: &mut [u8],
+    o: Output,
+    number: u64,
+    reach: usize,
+    need: usize,
+    lacked: usize,
+) -> Output
     requires { ⌜ o .len ≤ length (now space) ⌝ }
     ensures { λ r. ⌜ r .len ≤ length (now (space .entry)) ⌝ }
 {
     let o = refused(space, o, number, reach);
+    if number == 4 {
+        return labelled(space, o, b" ", lacked as u64);
+    }
     if number == 7 {
         return labelled(space, o, b" ", need as u64);
     }

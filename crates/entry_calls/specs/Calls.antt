@@ -11,4 +11,4 @@ outcome Apdu d down up s w = parse-apdu s down up w
 outcome Pdus d down up s w = parse-pdus s d down up w
 outcome Cm d down up s w = parse-cm s d w
 outcome Acse d down up s w = parse-acse-apdu s w
-outcome Unknown d down up s w = (refused 0 0 0, w)
+outcome Unknown d down up s w = (refused 0 0 0 0, w)

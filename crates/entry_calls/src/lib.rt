@@ -27,6 +27,7 @@ pub fn call(
             number: 0,
             reach: 0,
             need: 0,
+            lacked: 0,
         },
     }
 }

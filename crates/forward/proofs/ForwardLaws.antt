@@ -2,7 +2,7 @@
 use mathlib.Core.Path.{_≡_, refl, sym, ap, _∙_}
 use mathlib.Core.Bool.{Bool, true, false, cond}
 use mathlib.Core.List.{List, [], _∷_, _++_, append-nil}
-use Prim.Native.Nat.{ℕ, zero, suc, _+_, _<_}
+use Prim.Native.Nat.{ℕ, zero, suc, _+_, _%_, _<_}
 use native.Mathlib.Omega.{arith}
 use lib.Dec.{eqb}
 use borrow.Author.Tests.{eqb-true, eqb-false, ne-eqb}
@@ -96,30 +96,30 @@ module _ (down up : List ℕ) where
 ---------------------------------------------------------------- what is left of it
 
 -- it stopped at what is not supplied
-soft-stopped : (t : ℕ) (k : ℕ → ℕ → Ans) {c d : Cursor} {R : List Rec} → Led k c d R → c .why ≡ 0 → (d .why ≡ 0 → ⊥) → (d .why ≡ 4 → ⊥) → (d .why ≡ 5 → ⊥) → Ran (λ u p. softly t false (k u p)) c d []
+soft-stopped : (t : ℕ) (k : ℕ → ℕ → Ans) {c d : Cursor} {R : List Rec} → Led k c d R → c .why ≡ 0 → (d .why ≡ 0 → ⊥) → (d .why % 16 ≡ 4 → ⊥) → (d .why ≡ 5 → ⊥) → Ran (λ u p. softly t false (k u p)) c d []
 unfolding softly passOver
 soft-stopped t k (place.Led.stayed n q) z n₀ n₄ n₅ = absurd (n z)
 soft-stopped t k (place.Led.went p m y a l q) z n₀ n₄ n₅ = absurd (n₀ (rw q refl))
-soft-stopped t k (place.Led.failed out p m S n y a l q) z n₀ n₄ n₅ = absurd (n₄ (rw q refl))
+soft-stopped t k (place.Led.failed (out lacked) p m S n y a l q) z n₀ n₄ n₅ = absurd (n₄ (rw q (omega arith)))
 soft-stopped t k (place.Led.failed bad p m S n y a l q) z n₀ n₄ n₅ = absurd (n₅ (rw q refl))
 soft-stopped t k (place.Led.failed lack p m S n y a l q) z n₀ n₄ n₅ = failed lack p m S n y (rw a) l q
 soft-stopped t k (place.Led.failed (quit o j v) p m S n y a l q) z n₀ n₄ n₅ = absurd (n refl)
 
 soft-forgiven : (k : ℕ → ℕ → Ans) {c d e : Cursor} {R : List Rec} → Led k c d R → c .why ≡ 0 → (d .why ≡ 0 → ⊥) → Forgives d e → Ran (λ u p. softly 7 false (k u p)) c e []
 unfolding mark
-soft-forgiven k {c} {d} {e} led z n₀ f = by (eqb (d .why) 4) refl (eqb (d .why) 5) refl
+soft-forgiven k {c} {d} {e} led z n₀ f = by (eqb (d .why % 16) 4) refl (eqb (d .why) 5) refl
   where
-    by : (t : Bool) → eqb (d .why) 4 ≡ t → (o : Bool) → eqb (d .why) 5 ≡ o → Ran (λ u p. softly 7 false (k u p)) c e []
-    by true q o r = let y = eqb-true (d .why) 4 q in rw (f .cut y) (soft-out 7 k led z y)
+    by : (t : Bool) → eqb (d .why % 16) 4 ≡ t → (o : Bool) → eqb (d .why) 5 ≡ o → Ran (λ u p. softly 7 false (k u p)) c e []
+    by true q o r = let y = eqb-true (d .why % 16) 4 q in rw (f .cut y) (soft-out 7 k led z y)
     by false q true r = let y = eqb-true (d .why) 5 r in rw (f .over y) (soft-bad 7 k led z y)
-    by false q false r = let n₄ = eqb-false (d .why) 4 q in let n₅ = eqb-false (d .why) 5 r in rw (f .kept n₄ n₅) (soft-stopped 7 k led z n₀ n₄ n₅)
+    by false q false r = let n₄ = eqb-false (d .why % 16) 4 q in let n₅ = eqb-false (d .why) 5 r in rw (f .kept n₄ n₅) (soft-stopped 7 k led z n₀ n₄ n₅)
 
 -- behind what is never badly formed nor too short the window around is neither
-closed-neither : (w : ℕ) → (w ≡ 4 → ⊥) → (w ≡ 5 → ⊥) → (closedWhy w ≡ 4 → ⊥) × (closedWhy w ≡ 5 → ⊥)
+closed-neither : (w : ℕ) → (w % 16 ≡ 4 → ⊥) → (w ≡ 5 → ⊥) → (closedWhy w % 16 ≡ 4 → ⊥) × (closedWhy w ≡ 5 → ⊥)
 unfolding closedWhy
-closed-neither w n₄ n₅ = rw (ne-eqb w 4 n₄, ne-eqb w 5 n₅) (by (eqb w 6))
+closed-neither w n₄ n₅ = rw (ne-eqb (w % 16) 4 n₄, ne-eqb w 5 n₅) (by (eqb w 6))
   where
-    by : (t : Bool) → (_≡_ {A = ℕ} (cond t 6 0) 4 → ⊥) × (_≡_ {A = ℕ} (cond t 6 0) 5 → ⊥)
+    by : (t : Bool) → (_≡_ {A = ℕ} (cond t 6 0 % 16) 4 → ⊥) × (_≡_ {A = ℕ} (cond t 6 0) 5 → ⊥)
     by true = (λ z. omega arith, λ z. omega arith)
     by false = (λ z. omega arith, λ z. omega arith)
 

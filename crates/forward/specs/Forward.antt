@@ -1,7 +1,7 @@
 -- The forward message as a reading, and what is left of it where it fails.
 use mathlib.Core.Path.{_≡_}
 use mathlib.Core.List.{List}
-use Prim.Native.Nat.{ℕ, zero, suc}
+use Prim.Native.Nat.{ℕ, zero, suc, _%_}
 use Rattle.x691.specs.Bits.{bitOf}
 use Rattle.atn.specs.Messages.{forward}
 use Rattle.atn.specs.Reading.{Ans, or, read}
@@ -10,9 +10,9 @@ use Rattle.cursor.specs.Place.{put}
 
 -- what is left of a part that is passed over where it failed
 pub record Forgives (c d : Cursor) : Type 0 where
-  pub cut : c .why ≡ 4 → d ≡ put c (c .at) 7 (c .marks)
+  pub cut : c .why % 16 ≡ 4 → d ≡ put c (c .at) 7 (c .marks)
   pub over : c .why ≡ 5 → d ≡ put c (c .at) 0 (or (c .marks) 64)
-  pub kept : (c .why ≡ 4 → ⊥) → (c .why ≡ 5 → ⊥) → d ≡ c
+  pub kept : (c .why % 16 ≡ 4 → ⊥) → (c .why ≡ 5 → ⊥) → d ≡ c
 
 -- the table of the carried data, by its direction
 unfoldable pub carriedTable : ℕ → List ℕ → List ℕ → List ℕ

@@ -22,7 +22,7 @@ fn forgive(c: Cursor) -> Cursor
     let at = c.at;
     let end = c.end;
     let marks = c.marks;
-    if c.why == 4 {
+    if c.why % 16 == 4 {
         return Cursor {
             at: at,
             end: end,

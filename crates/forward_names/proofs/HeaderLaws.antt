@@ -95,7 +95,7 @@ headed down up s {p} {R} l h =
     record { next = x₃ .mid; val = f .val; inRange = f .good; reads = x₃ .first ∙ ap (λ (S : List Rec). ok (x₃ .mid) S 0) (f .recs); rest = x₃ .R₂; recs = x₂ .3 ∙ x₃ .recs ∙ ap (λ (S : List Rec). S ++ x₃ .R₂) (f .recs) }
 
 pub identified : (p at : ℕ) (v : Value (typeOf header)) (R : List Rec) → InRange (typeOf header) v
-    → identifier p (tell header v (0, 0) at ++ R) ≡ record { number = 0; reach = p; text = octets 8 (identifierOf v); size = length (identifierOf v) }
+    → identifier p (tell header v (0, 0) at ++ R) ≡ record { number = 0; reach = p; lacked = 0; text = octets 8 (identifierOf v); size = length (identifierOf v) }
 unfolding identifier tell tellFields
 identified p at v R g = let cs : List ℕ = identifierOf v in let sized = g .1 .0 in rw (coded-nil cs, one-pack 19 0 cs (omega (arith, sized .0)) (sized .1))
 
@@ -120,7 +120,7 @@ module _ (down up s : List ℕ) {p : ℕ} {R : List Rec} (clean : readFrame (gro
     abbrev pub characters : List ℕ
     characters = identifierOf (found .val)
 
-    pub forward-message : nameIn p R ≡ record { number = 0; reach = p; text = octets 8 characters; size = length characters }
+    pub forward-message : nameIn p R ≡ record { number = 0; reach = p; lacked = 0; text = octets 8 characters; size = length characters }
     forward-message = of-forward p _ R _ (start .recs) forwards ∙ ap (λ (S : List Rec). identifier p S) (found .recs) ∙ identified p 4 (found .val) (found .rest) (found .inRange)
 
 ---------------------------------------------------------------- the words
@@ -171,7 +171,7 @@ module _ (down up s : List ℕ) {p : ℕ} {R : List Rec} (clean : readFrame (gro
         let x = same-header in
         lone-pack _ _ (omega (arith, sized .0)) (sized .1) (ap (λ (l : List Rec). drop 6 l) (rw (coded-nil chars, one-pack 19 0 chars (omega (arith, sized .0)) (sized .1)) at x))
 
-    pub clean-named : {j m : ℕ} {w k : List ℕ} → length w ≡ 4 → Told j w k 0 m (textRecs 19 0 s (h .header .name)) → record { number = 0; reach = p; text = getD k 2 0; size = getD k 3 0 } ≡ nameIn p R
+    pub clean-named : {j m : ℕ} {w k : List ℕ} → length w ≡ 4 → Told j w k 0 m (textRecs 19 0 s (h .header .name)) → record { number = 0; reach = p; lacked = 0; text = getD k 2 0; size = getD k 3 0 } ≡ nameIn p R
     unfolding flat need
     clean-named {k = k} l told =
         let t : take 4 k ≡ 19 ∷ 0 ∷ octets 8 chars ∷ length chars ∷ [] = told-kept (rw name-record at told) (omega (arith, told .room)) in

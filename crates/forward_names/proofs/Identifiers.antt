@@ -50,6 +50,6 @@ module _ (s down up : List ℕ) where
       go true true (accept false p zero R) q z = of-clean p R q z
       go true true (accept false p (suc m) R) q z = absurd (omega arith)
       go true true (accept true p m R) q z = absurd (omega arith)
-      go true true (ranOut p) q z = absurd (omega arith)
+      go true true (ranOut p lacked) q z = absurd (omega arith)
       go true true (badly p) q z = absurd (omega arith)
       go true true (unsupplied p) q z = absurd (omega arith)

@@ -2,7 +2,7 @@
 use mathlib.Core.Path.{_≡_, refl, _∙_}
 use mathlib.Core.Bool.{true, false, _&&_}
 use mathlib.Core.List.{List}
-use Prim.Native.Nat.{ℕ, zero, suc, _≤_, _<_}
+use Prim.Native.Nat.{ℕ, zero, suc, _+_, _*_, _/_, _%_, _≤_, _<_}
 use native.Mathlib.Omega.{arith}
 use lib.ListN.{length}
 use borrow.Author.Tests.{le-leb, lt-leb}
@@ -12,7 +12,7 @@ use Rattle.atn.specs.Reading.{Rec}
 use Rattle.verdicts.specs.declared.Verdict.{Verdict}
 use Rattle.verdicts.specs.Verdicts.{verdictOf}
 use Rattle.forward_names.specs.declared.Named.{Named}
-use Rattle.forward_names.specs.Names.{nameless, nameIn, nameOf, forward-name}
+use Rattle.forward_names.specs.Names.{turned, nameless, nameIn, nameOf, forward-name}
 
 ---------------------------------------------------------------- the tests
 
@@ -40,15 +40,15 @@ module _ {v : Verdict} where
   unfolding verdictOf nameOf
   name-cut z (accept false p m R) h = absurd (let y : _≡_ {A = ℕ} 0 7 = rw h at z in omega arith)
   name-cut z (accept true p m R) h = rw h
-  name-cut z (ranOut p) h = absurd (let y : _≡_ {A = ℕ} 4 7 = rw h at z in omega arith)
+  name-cut z (ranOut p lacked) h = absurd (let y = rw h at z in omega arith)
   name-cut z (badly p) h = absurd (let y : _≡_ {A = ℕ} 5 7 = rw h at z in omega arith)
   name-cut z (unsupplied p) h = absurd (let y : _≡_ {A = ℕ} 6 7 = rw h at z in omega arith)
 
-  pub name-refused : (v .why ≡ 7 → ⊥) → (v .why ≡ 0 → ⊥) → (r : Reply) → v ≡ verdictOf r → nameless (v .why) (v .reach) ≡ nameOf r
+  pub name-refused : (v .why ≡ 7 → ⊥) → (v .why ≡ 0 → ⊥) → (r : Reply) → v ≡ verdictOf r → turned (v .why % 16) (v .reach) (v .why / 16) ≡ nameOf r
   unfolding verdictOf nameOf
   name-refused n₇ n₀ (accept false p m R) h = absurd (n₀ (rw h refl))
   name-refused n₇ n₀ (accept true p m R) h = absurd (n₇ (rw h refl))
-  name-refused n₇ n₀ (ranOut p) h = rw h
+  name-refused n₇ n₀ (ranOut p k) h = let number : (4 + 16 * k) % 16 ≡ 4 = omega arith in let lacked : (4 + 16 * k) / 16 ≡ k = omega arith in rw (h, number, lacked)
   name-refused n₇ n₀ (badly p) h = rw h
   name-refused n₇ n₀ (unsupplied p) h = rw h
 
@@ -56,7 +56,7 @@ module _ {v : Verdict} where
   unfolding verdictOf
   whole (accept false p m R) h z k = k R (rw h)
   whole (accept true p m R) h z k = absurd (let y : _≡_ {A = ℕ} 7 0 = rw h at z in omega arith)
-  whole (ranOut p) h z k = absurd (let y : _≡_ {A = ℕ} 4 0 = rw h at z in omega arith)
+  whole (ranOut p lacked) h z k = absurd (let y = rw h at z in omega arith)
   whole (badly p) h z k = absurd (let y : _≡_ {A = ℕ} 5 0 = rw h at z in omega arith)
   whole (unsupplied p) h z k = absurd (let y : _≡_ {A = ℕ} 6 0 = rw h at z in omega arith)
 

@@ -9,14 +9,17 @@ use Rattle.atn.specs.Messages.{groundPdus}
 use Rattle.atn.specs.Tags as tag
 use Rattle.forward_names.specs.declared.Named.{Named}
 
--- the refusal, and the reach
+-- the refusal, the reach, and the bits lacked where the reading ran out
+abbrev pub turned : ℕ → ℕ → ℕ → Named
+turned n p k = record { number = n; reach = p; lacked = k; text = 0; size = 0 }
+
 abbrev pub nameless : ℕ → ℕ → Named
-nameless n p = record { number = n; reach = p; text = 0; size = 0 }
+nameless n p = turned n p 0
 
 -- the identifier has 2 to 8 characters, so that one record holds it: the characters, and how many they are
 unfoldable pub identifier : ℕ → List Rec → Named
 identifier p [] = nameless 19 p
-identifier p (rec t m v n ∷ R) = cond (eqb t tag.aircraft-id) (record { number = 0; reach = p; text = v; size = n }) (identifier p R)
+identifier p (rec t m v n ∷ R) = cond (eqb t tag.aircraft-id) (record { number = 0; reach = p; lacked = 0; text = v; size = n }) (identifier p R)
 
 -- the records of an uplink begin with its direction and the index of its alternative: 4 is the forward message
 unfoldable pub nameIn : ℕ → List Rec → Named
@@ -29,7 +32,7 @@ unfoldable pub nameOf : Reply → Named
 nameOf (accept false p zero R) = nameIn p R
 nameOf (accept false p (suc m) R) = nameless 19 p
 nameOf (accept true p m R) = nameless 19 p
-nameOf (ranOut p) = nameless 4 p
+nameOf (ranOut p k) = turned 4 p k
 nameOf (badly p) = nameless 5 p
 nameOf (unsupplied p) = nameless 6 p
 

@@ -7,7 +7,7 @@ ghost use lib.ListN.{length};
 ghost use Rattle.atn.specs.Reading.{Rec};
 ghost use Rattle.atn.specs.Entries.{accept, readFrame};
 ghost use Rattle.atn.specs.Messages.{groundPdus};
-ghost use Rattle.forward_names.specs.Names.{nameless, nameIn, forward-name};
+ghost use Rattle.forward_names.specs.Names.{turned, nameIn, forward-name};
 use cpdlc_frames::try_frame;
 use cursor::place::Cursor;
 use cursor::place::bits;
@@ -17,10 +17,11 @@ use tell::tell_text;
 use verdicts::Verdict;
 
 // `number` is 0 for a name: its characters as its record has them, the first in the highest octet, how many they are, and the message's reach.
-// Else it is the refusal of the reading, or 19 where that is not clean or is of no forward message; text and size are 0 then.
+// Else it is the refusal of the reading, or 19 where that is not clean or is of no forward message; text and size are 0 then. `lacked` is the bits lacked where the reading ran out, else 0.
 pub struct Named {
     pub number: u64,
     pub reach: usize,
+    pub lacked: usize,
     pub text: u64,
     pub size: u64,
 }
@@ -35,31 +36,32 @@ pub fn forward_name(frame: &[u8], down: &[u8], up: &[u8]) -> Named
     ensures { λ r. ⌜ r ≡ forward-name (now (frame .entry)) (now (down .entry)) (now (up .entry)) ⌝ }
 {
     if LONGEST < frame.len() {
-        return no_name(1, 0);
+        return no_name(1, 0, 0);
     }
     if !tables_fit(down, up) {
-        return no_name(2, 0);
+        return no_name(2, 0, 0);
     }
     let mut spare = [0u64; 4];
     let v = try_frame(frame, &mut spare, 1, down, up);
     if v.why == 7 {
-        return no_name(19, v.reach);
+        return no_name(19, v.reach, 0);
     }
     if v.why != 0 {
-        return no_name(v.why, v.reach);
+        return no_name(v.why % 16, v.reach, (v.why / 16) as usize);
     }
     if v.marks != 0 {
-        return no_name(19, v.reach);
+        return no_name(19, v.reach, 0);
     }
     clean_name(frame, v.reach)
 }
 
-fn no_name(number: u64, reach: usize) -> Named
-    ensures { λ r. ⌜ r ≡ nameless number reach ⌝ }
+fn no_name(number: u64, reach: usize, lacked: usize) -> Named
+    ensures { λ r. ⌜ r ≡ turned number reach lacked ⌝ }
 {
     Named {
         number: number,
         reach: reach,
+        lacked: lacked,
         text: 0,
         size: 0,
     }
@@ -79,7 +81,7 @@ fn clean_name(frame: &[u8], reach: usize) -> Named
     };
     let choice = bits(frame, behind, 3);
     if choice.v != FORWARD {
-        return no_name(19, reach);
+        return no_name(19, reach, 0);
     }
     let h = read_header(frame, choice.c);
     let header = h.header;
@@ -89,6 +91,7 @@ fn clean_name(frame: &[u8], reach: usize) -> Named
     Named {
         number: 0,
         reach: reach,
+        lacked: 0,
         text: words[2],
         size: words[3],
     }

@@ -21,7 +21,7 @@ pub fn try_data(s: &[u8], words: &mut [u64], n: usize, c: Cursor, table: &[u8]) 
     }
     let x = read_data(s, words, n, c, table);
     let d = x.c;
-    let why = d.why;
+    let why = d.why % 16;
     let at = d.at;
     let end = d.end;
     let marks = d.marks;

@@ -31,7 +31,7 @@ string-stops {d = d} {l} measures passes h = record { length-read = l; behind = 
 string-off : {s : List ℕ} {c d e : Cursor} {l : Measured} → Measures s c l → Passes (l .c) (l .count) d → d .why ≡ 0 → e ≡ stopped d 4 0 → length s * 8 < l .c .at + l .count → Lacks s c e
 unfolding stopped
 string-off {d = d} {l = l} measures passes goes q o =
-    record { length-read = l; behind = d; measures = measures; passes = passes; stops = λ z. (let y : _≡_ {A = ℕ} 4 0 = rw (q, goes) at z in omega arith); same = λ h. absurd (h goes); off = λ _. o }
+    record { length-read = l; behind = d; measures = measures; passes = passes; stops = λ z. (let y = rw (q, goes) at z in omega arith); same = λ h. absurd (h goes); off = λ _. o }
 
 module _ {s : List ℕ} {c : Cursor} {l : Measured} (measures : Measures s c l) {t : Bool} where
   -- places that the frame holds are small

@@ -2,7 +2,7 @@
 use mathlib.Core.Path.{_≡_, refl, sym, ap, _∙_}
 use mathlib.Core.Bool.{true, false}
 use mathlib.Core.List.{List, [], _∷_}
-use Prim.Native.Nat.{ℕ, zero, suc, _+_, _*_, _≤_}
+use Prim.Native.Nat.{ℕ, zero, suc, _+_, _*_, _%_, _≤_}
 use native.Mathlib.Omega.{arith}
 use Rattle.x691.specs.Bits.{bitOf}
 use Rattle.atn.specs.Format.{anySpan}
@@ -33,7 +33,7 @@ module _ {s : List ℕ} {c d : Cursor} {l : Measured} (measures : Measures s c l
       let t : Takes (anySpan 18 1) s c d (λ n. spanned 18 n (l .c .at) (l .count * 1)) = takes-any-span 18 1 measures (rw z passes) in
       rw z at (t .took (0, 0) .led i)
 
-  pub integrity-cut : {n : ℕ} {w : List ℕ} → c .why ≡ 0 → d .why ≡ 4 → Runs 1 (integrity s) s c n w w (record { n = n; c = put d (d .at) 7 (d .marks) })
+  pub integrity-cut : {n : ℕ} {w : List ℕ} → c .why ≡ 0 → d .why % 16 ≡ 4 → Runs 1 (integrity s) s c n w w (record { n = n; c = put d (d .at) 7 (d .marks) })
   unfolding integrity read
   integrity-cut h z = record { recs = []; ran = λ i. soft-out 7 reading (led i) h z; told = told-within 1 (omega arith) told-none }
 
@@ -41,11 +41,11 @@ module _ {s : List ℕ} {c d : Cursor} {l : Measured} (measures : Measures s c l
   unfolding integrity read mark
   integrity-over h z = record { recs = []; ran = λ i. soft-bad 7 reading (led i) h z; told = told-within 1 (omega arith) told-none }
 
-  pub integrity-none : {n : ℕ} {w : List ℕ} → c .why ≡ 0 → (d .why ≡ 4 → ⊥) → (d .why ≡ 5 → ⊥) → l .count ≡ 0 → Runs 1 (integrity s) s c n w w (record { n = n; c = d })
+  pub integrity-none : {n : ℕ} {w : List ℕ} → c .why ≡ 0 → (d .why % 16 ≡ 4 → ⊥) → (d .why ≡ 5 → ⊥) → l .count ≡ 0 → Runs 1 (integrity s) s c n w w (record { n = n; c = d })
   unfolding integrity read spanned
   integrity-none h n₄ n₅ z = record { recs = []; ran = λ i. soft-went 7 reading (rw z at (led i)) h n₄ n₅; told = told-within 1 (omega arith) told-none }
 
-  pub integrity-some : {n m : ℕ} {w w′ : List ℕ} → c .why ≡ 0 → (d .why ≡ 4 → ⊥) → (d .why ≡ 5 → ⊥) → (l .count ≡ 0 → ⊥) → Told 1 w w′ n m (rec 18 0 (l .c .at) (l .count) ∷ []) → Runs 1 (integrity s) s c n w w′ (record { n = m; c = d })
+  pub integrity-some : {n m : ℕ} {w w′ : List ℕ} → c .why ≡ 0 → (d .why % 16 ≡ 4 → ⊥) → (d .why ≡ 5 → ⊥) → (l .count ≡ 0 → ⊥) → Told 1 w w′ n m (rec 18 0 (l .c .at) (l .count) ∷ []) → Runs 1 (integrity s) s c n w w′ (record { n = m; c = d })
   unfolding integrity read spanned
   integrity-some {n} {m} {w} {w′} h n₄ n₅ z t = record { recs = spanned 18 0 (l .c .at) (l .count); ran = λ i. soft-went 7 reading (led i) h n₄ n₅; told = go (l .count) z t }
     where

@@ -24,7 +24,7 @@ pub fn read_integrity(s: &[u8], words: &mut [u64], n: usize, c: Cursor) -> At
     let place = end.at;
     let window = end.end;
     let marks = end.marks;
-    if end.why == 4 {
+    if end.why % 16 == 4 {
         let cut = Cursor {
             at: place,
             end: window,

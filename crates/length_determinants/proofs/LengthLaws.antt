@@ -12,7 +12,7 @@ use lib.Pow.{low, pow-pos}
 use borrow.Author.Tests.{le-leb, lt-leb, eq-eqb, ne-eqb}
 use Rattle.x691.specs.Bits.{bitOf, uint}
 use Rattle.per.proofs.Laws.{uint-below, uint-below-wide, uint-split}
-use Rattle.atn.specs.Format.{bad, anySpan, skipped, small}
+use Rattle.atn.specs.Format.{out, bad, anySpan, skipped, small}
 use Rattle.atn.specs.Reading.{Rec, rec, Ans, ok, stop, then, fork, guard, or, word, spanned, unless, mark, pull, long, fragment, lengths, lengthThen, read}
 use Rattle.atn.specs.Reading.{short as shortForm}
 use Rattle.cursor.specs.declared.place.Cursor.{Cursor}
@@ -100,7 +100,7 @@ module _ {s : List ℕ} {c : Cursor} {n : ℕ} {g : Got} where
 
   through : Pulled s c n g → g .c .why ≡ 0 → Through s c n g
   through (stuck h q) z = absurd (h (rw q at z))
-  through (short y l q) z = absurd (let x : _≡_ {A = ℕ} 4 0 = rw q at z in omega arith)
+  through (short y l q) z = absurd (let x : number (out (c .at + n - c .end)) ≡ 0 = rw q at z in omega arith)
   through (got y l v q) z = record { goes = y; place = rw q; window = rw q; room = l; worth = v }
 
   -- where they are not there any number will do
@@ -127,8 +127,10 @@ module _ (c : Cursor) (n : ℕ) where
   pub passes-over : c .why ≡ 0 → c .at ≤ c .end → n ≤ c .end - c .at → Passes c n (put c (c .at + n) 0 (c .marks))
   passes-over z a l = record { pulls = λ s. record { gave = λ i. got z (omega arith) refl refl } }
 
-  pub passes-short : c .why ≡ 0 → c .at ≤ c .end → c .end - c .at < n → Passes c n (put c (c .at) 4 (c .marks))
-  passes-short z a l = record { pulls = λ s. record { gave = λ i. short z (omega arith) refl } }
+  pub passes-short : {w : ℕ} → c .why ≡ 0 → c .at ≤ c .end → c .end - c .at < n → w ≡ number (out (n - (c .end - c .at))) → Passes c n (put c (c .at) w (c .marks))
+  passes-short z a l q =
+      let e : n - (c .end - c .at) ≡ c .at + n - c .end = omega arith in
+      record { pulls = λ s. record { gave = λ i. short z (omega arith) (ap (λ (x : ℕ). put c (c .at) x (c .marks)) (q ∙ rw e)) } }
 
   pub passes-off : c .end < c .at → Passes c n (put c (c .at) 4 (c .marks))
   passes-off l = record { pulls = λ s. record { gave = λ i. absurd (omega (arith, i .0)) } }
@@ -272,7 +274,7 @@ module _ {s : List ℕ} {c : Cursor} where
     where
       go : Inside s c → Pulled s c 8 g → Measures s c (record { count = g .v; c = g .c })
       go i (stuck h q) = absurd (h (rw q at z))
-      go i (short y o q) = absurd (let w : _≡_ {A = ℕ} 4 0 = rw q at z in omega arith)
+      go i (short y o q) = absurd (let w = rw q at z in omega arith)
       go i (got y o v q) =
           let e : uint (bitOf s) (c .at) 8 ≡ uint (bitOf s) (c .at) 1 * 2 ^ 7 + uint (bitOf s) (c .at + 1) 7 = uint-split (bitOf s) (c .at) 1 7 in
           let form : Got = record { v = uint (bitOf s) (c .at) 1; c = put c (c .at + 1) 0 (c .marks) } in

@@ -8,6 +8,7 @@ use cursor::place::Cursor;
 use cursor::place::Got;
 use cursor::place::bits;
 use cursor::place::mark;
+use cursor::place::ran_out;
 use cursor::place::stop;
 use per::room::holds;
 use per::units::Bits;
@@ -122,6 +123,7 @@ fn any_form(s: &[u8], c: Cursor) -> Measured
 
 // So many bits are passed over without being looked at. Where the window is too short for them it says so and does not move.
 pub fn pass(c: Cursor, n: Bits) -> Cursor
+    requires { ⌜ n .0 < 2 ^ 56 ⌝ }
     ensures { λ r. ⌜ Passes c (n .0) r ⌝ }
 {
     let at = c.at;
@@ -131,7 +133,8 @@ pub fn pass(c: Cursor, n: Bits) -> Cursor
         return c;
     }
     if at <= end {
-        if n.0 <= end - at {
+        let left = end - at;
+        if n.0 <= left {
             return Cursor {
                 at: at + n.0,
                 end: end,
@@ -139,6 +142,13 @@ pub fn pass(c: Cursor, n: Bits) -> Cursor
                 marks: marks,
             };
         }
+        let why = ran_out(n.0 - left);
+        return Cursor {
+            at: at,
+            end: end,
+            why: why,
+            marks: marks,
+        };
     }
     Cursor {
         at: at,
@@ -150,7 +160,7 @@ pub fn pass(c: Cursor, n: Bits) -> Cursor
 
 // The number of so many octets, as a word: only the last eight count, and the others are not looked at.
 fn last_eight(s: &[u8], c: Cursor, n: Octets) -> Got
-    requires { ⌜ n .0 * 8 < 2 ^ 64 ⌝ }
+    requires { ⌜ n .0 * 8 < 2 ^ 56 ⌝ }
     ensures { λ r. ⌜ Worth (now (s .entry)) c (n .0 * 8) r ⌝ }
 {
     let size = n.bits();

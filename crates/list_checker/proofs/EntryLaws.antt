@@ -45,13 +45,13 @@ unfolding orElse afterBad afterOut
 either (accept b q m S) u {p} h f g = f p h
 either (unsupplied q) u h f g = absurd (let z : _≡_ {A = ℕ} 0 1 = cc in omega arith)
 either (badly q) (accept b o m S) {R = R} h f g = let z = accepts-alike h in g o (rw (z .0, z .1, z .2))
-either (badly q) (ranOut o) h f g = absurd (let z : _≡_ {A = ℕ} 0 1 = cc in omega arith)
+either (badly q) (ranOut o lacked) h f g = absurd (let z : _≡_ {A = ℕ} 0 1 = cc in omega arith)
 either (badly q) (badly o) h f g = absurd (let z : _≡_ {A = ℕ} 0 1 = cc in omega arith)
 either (badly q) (unsupplied o) h f g = absurd (let z : _≡_ {A = ℕ} 0 1 = cc in omega arith)
-either (ranOut q) (accept b o m S) h f g = absurd (let y = accepts-alike h .0 in let z : _≡_ {A = ℕ} 0 1 = cc in omega arith)
-either (ranOut q) (ranOut o) h f g = absurd (let z : _≡_ {A = ℕ} 0 1 = cc in omega arith)
-either (ranOut q) (badly o) h f g = absurd (let z : _≡_ {A = ℕ} 0 1 = cc in omega arith)
-either (ranOut q) (unsupplied o) h f g = absurd (let z : _≡_ {A = ℕ} 0 1 = cc in omega arith)
+either (ranOut q lacked) (accept b o m S) h f g = absurd (let y = accepts-alike h .0 in let z : _≡_ {A = ℕ} 0 1 = cc in omega arith)
+either (ranOut q lacked) (ranOut o also) h f g = absurd (let z : _≡_ {A = ℕ} 0 1 = cc in omega arith)
+either (ranOut q lacked) (badly o) h f g = absurd (let z : _≡_ {A = ℕ} 0 1 = cc in omega arith)
+either (ranOut q lacked) (unsupplied o) h f g = absurd (let z : _≡_ {A = ℕ} 0 1 = cc in omega arith)
 
 pub reading-few : (s : List ℕ) (e : Entry) (down up : List ℕ) (p : ℕ) (R : List Rec) → readingOf e down up s ≡ accept false p 0 R → length R ≤ 8324
 unfolding readingOf pdus cmOf

@@ -31,7 +31,7 @@ unfolding held
 held-clean (accept false p zero R) l h = record { reach = p; recs = R; is = refl; list = yes-same 1 R l h }
 held-clean (accept false p (suc m) R) l h = absurd (let z : _≡_ {A = ℕ} 0 1 = cc in omega arith)
 held-clean (accept true p m R) l h = absurd (let z : _≡_ {A = ℕ} 0 1 = cc in omega arith)
-held-clean (ranOut p) l h = absurd (let z : _≡_ {A = ℕ} 0 1 = cc in omega arith)
+held-clean (ranOut p lacked) l h = absurd (let z : _≡_ {A = ℕ} 0 1 = cc in omega arith)
 held-clean (badly p) l h = absurd (let z : _≡_ {A = ℕ} 0 1 = cc in omega arith)
 held-clean (unsupplied p) l h = absurd (let z : _≡_ {A = ℕ} 0 1 = cc in omega arith)
 

@@ -38,13 +38,13 @@ unfolding held
 not-clean (accept false p zero R) l n = absurd (n p R refl)
 not-clean (accept false p (suc m) R) l n = refl
 not-clean (accept true p m R) l n = refl
-not-clean (ranOut p) l n = refl
+not-clean (ranOut p lacked) l n = refl
 not-clean (badly p) l n = refl
 not-clean (unsupplied p) l n = refl
 
-module _ {n p k : ℕ} {w′ : List ℕ} where
+module _ {n p k j : ℕ} {w′ : List ℕ} where
   -- a reading refuses with 4 or more, and for want of room with 7
-  refused-late : (r : Reply) (w : List ℕ) → settle r w ≡ (refused n p k, w′) → (3 < n) × ((l : List ℕ) → (n ≡ 7 → (q : ℕ) (R : List Rec) → r ≡ accept false q 0 R → ⊥) → held r l ≡ Refused 19)
+  refused-late : (r : Reply) (w : List ℕ) → settle r w ≡ (refused n p k j, w′) → (3 < n) × ((l : List ℕ) → (n ≡ 7 → (q : ℕ) (R : List Rec) → r ≡ accept false q 0 R → ⊥) → held r l ≡ Refused 19)
   unfolding settle held
   refused-late (accept c q m R) w h =
       split (need R) (length w) (λ i. answers-differ (sym (settle-fits c q m R w i) ∙ h))
@@ -52,12 +52,12 @@ module _ {n p k : ℕ} {w′ : List ℕ} where
       let x = ap (λ (o : Outcome). o .0) (sym (settle-full c q m R w i) ∙ h) in
       let z : 7 ≡ n = cc in
       (omega arith, λ l unclean. not-clean (accept c q m R) l (unclean (sym z))))
-  refused-late (ranOut q) w h = let x = ap (λ (o : Outcome). o .0) h in let z : 4 ≡ n = cc in (omega arith, λ l unclean. refl)
+  refused-late (ranOut q lacked) w h = let x = ap (λ (o : Outcome). o .0) h in let z : 4 ≡ n = cc in (omega arith, λ l unclean. refl)
   refused-late (badly q) w h = let x = ap (λ (o : Outcome). o .0) h in let z : 5 ≡ n = cc in (omega arith, λ l unclean. refl)
   refused-late (unsupplied q) w h = let x = ap (λ (o : Outcome). o .0) h in let z : 6 ≡ n = cc in (omega arith, λ l unclean. refl)
 
   -- a test refused
-  checked-early : (ts : List Test) (r : Reply) (w l : List ℕ) → decide ts r w ≡ (refused n p k, w′) → n ≤ 3 → Refused n ≡ checked ts r l
+  checked-early : (ts : List Test) (r : Reply) (w l : List ℕ) → decide ts r w ≡ (refused n p k j, w′) → n ≤ 3 → Refused n ≡ checked ts r l
   unfolding checked decide
   checked-early [] r w l h i = absurd (let z = refused-late r w h .0 in omega arith)
   checked-early (test true m ∷ ts) r w l h i = checked-early ts r w l h i
@@ -75,7 +75,7 @@ module _ (s : List ℕ) (e : Entry) (down up lent : List ℕ) where
   of-accepted : {c : Bool} {p m k : ℕ} {w : List ℕ} → _≡_ {A = Outcome} (accepted c p m k, w) (entered e down up s lent) → (passes tests ≡ true) × Settled reply lent c p m k w
   of-accepted h = decide-accepted tests reply lent (sym (h ∙ tests-and-reading s e down up lent))
 
-  of-refused : {n p k : ℕ} {w : List ℕ} → _≡_ {A = Outcome} (refused n p k, w) (entered e down up s lent) → 3 < n → (passes tests ≡ true) × (settle reply lent ≡ (refused n p k, w))
+  of-refused : {n p k j : ℕ} {w : List ℕ} → _≡_ {A = Outcome} (refused n p k j, w) (entered e down up s lent) → 3 < n → (passes tests ≡ true) × (settle reply lent ≡ (refused n p k j, w))
   of-refused h i = decide-refused tests reply lent (sym (h ∙ tests-and-reading s e down up lent)) .late (tests-early s e down up) i
 
   -- the records of an accepted answer are in the words
@@ -85,13 +85,13 @@ module _ (s : List ℕ) (e : Entry) (down up lent : List ℕ) where
       let y = of-accepted (x .is) .1 in
       let n : length w ≡ length (flat (y .recs)) + length (drop (need (y .recs)) lent) = ap (λ (l : List ℕ). length l) (y .words) ∙ length-append (flat (y .recs)) (drop (need (y .recs)) lent) in
       omega (arith, y .counted, flat-need (y .recs))
-  fits (answer.Refused n p k) x = tt
+  fits (answer.Refused n p k j) x = tt
 
   -- no clean reading needs more words than these
   pub enough : length lent ≡ 33296 → (a : Answer) {w : List ℕ} → Says a w (entered e down up s lent) → isFull a ≡ true → (p : ℕ) (R : List Rec) → reply ≡ accept false p 0 R → ⊥
   unfolding need
   enough l (answer.Accepted c q m k) x f p R h = let z : _≡_ {A = ℕ} 0 1 = cc in omega arith
-  enough l (answer.Refused n q k) {w} x f p R h =
+  enough l (answer.Refused n q k j) {w} x f p R h =
       let z = eqb-true n 7 f in
       let full : NoRoom reply lent q k w = settle-refused reply lent (of-refused (x .is) (omega arith) .1) .2 z in
       let y : accept (full .cut) q (full .marks) (full .recs) ≡ accept false p 0 R = sym (full .replied) ∙ h in
@@ -123,11 +123,11 @@ module _ (s : List ℕ) (e : Entry) (down up lent : List ℕ) where
         let q : reply ≡ accept false p 0 R = x .1 .replied ∙ ap (λ (j : ℕ). accept false p j R) z in
         f R t ∙ sym (checked-go tests reply l (x .0) ∙ rw q)
 
-    pub said-early : {n p k : ℕ} {w : List ℕ} → n ≤ 3 → _≡_ {A = Outcome} (refused n p k, w) (entered e down up s lent) → Refused n ≡ check-list s e down up l
+    pub said-early : {n p k j : ℕ} {w : List ℕ} → n ≤ 3 → _≡_ {A = Outcome} (refused n p k j, w) (entered e down up s lent) → Refused n ≡ check-list s e down up l
     unfolding check-list
     said-early i h = checked-early tests reply lent l (sym (h ∙ tests-and-reading s e down up lent)) i
 
-    pub said-late : {n p k : ℕ} {w : List ℕ} → 3 < n → (eqb n 7 ≡ true → (q : ℕ) (R : List Rec) → reply ≡ accept false q 0 R → ⊥) → _≡_ {A = Outcome} (refused n p k, w) (entered e down up s lent) → Refused 19 ≡ check-list s e down up l
+    pub said-late : {n p k j : ℕ} {w : List ℕ} → 3 < n → (eqb n 7 ≡ true → (q : ℕ) (R : List Rec) → reply ≡ accept false q 0 R → ⊥) → _≡_ {A = Outcome} (refused n p k j, w) (entered e down up s lent) → Refused 19 ≡ check-list s e down up l
     unfolding check-list
     said-late {n} i unclean h =
         let x = of-refused h i in
@@ -149,7 +149,7 @@ module _ {a : Answer} {w l : List ℕ} where
     pub judged-clean : {x : Checked} → c ≡ false → m ≡ 0 → ((R : List Rec) → take (k * 4) w ≡ flat R → x ≡ compared 1 R l) → Judges a w l x
     judged-clean z y f = record { judges = λ s e down up lent says full. said-clean s e down up lent l y (accepted-with accepts z says) f }
 
-  module _ {n p k : ℕ} (refuses : a ≡ answer.Refused n p k) where
+  module _ {n p k j : ℕ} (refuses : a ≡ answer.Refused n p k j) where
     pub judged-early : n ≤ 3 → Judges a w l (Refused n)
     judged-early i = record { judges = λ s e down up lent says full. said-early s e down up lent l i (rw refuses at (says .is)) }
 

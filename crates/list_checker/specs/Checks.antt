@@ -14,7 +14,7 @@ unfoldable pub held : Reply → List ℕ → Checked
 held (accept false p zero R) l = compared 1 R l
 held (accept false p (suc m) R) l = Refused 19
 held (accept true p m R) l = Refused 19
-held (ranOut p) l = Refused 19
+held (ranOut p lacked) l = Refused 19
 held (badly p) l = Refused 19
 held (unsupplied p) l = Refused 19
 

@@ -18,12 +18,12 @@ use Rattle.list_checker.specs.Checks.{check-list}
 -- refused for want of room
 abbrev pub isFull : Answer → Bool
 isFull (Accepted c p m k) = false
-isFull (Refused n p k) = eqb n 7
+isFull (Refused n p k j) = eqb n 7
 
 -- the records of an accepted reading are in the words
 abbrev pub Fits : Answer → List ℕ → Type 0
 Fits (Accepted c p m k) w = k * 4 ≤ length w
-Fits (Refused n p k) w = Unit {0}
+Fits (Refused n p k j) w = Unit {0}
 
 -- whichever entry answered so: r is said of the list, if no clean reading was refused for want of room
 pub record Judges (a : Answer) (w l : List ℕ) (r : Checked) : Type 0 where

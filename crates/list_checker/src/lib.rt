@@ -49,6 +49,7 @@ fn is_full(answer: Answer) -> bool
             number,
             reach: _,
             need: _,
+            lacked: _,
         } => number == 7,
     }
 }
@@ -77,6 +78,7 @@ fn judge(answer: Answer, words: &[u64], list: &[u64]) -> Checked
             number,
             reach: _,
             need: _,
+            lacked: _,
         } => {
             if number <= 3 {
                 return Checked::Refused(number);

@@ -1,4 +1,4 @@
-// An answer as the lines of tools/differential have it: `ok`, whole or cut, reach, mark sum, number of records and the records; or `no`, number, reach, and for 7 the need.
+// An answer as the lines of tools/differential have it: `ok`, whole or cut, reach, mark sum, number of records and the records; or `no`, number, reach, and for 7 the need. How many bits were lacked is not printed: the Rust, from whose answers lists are made, does not say it.
 ghost use Prim.Native.Nat.{_<_};
 use super::put;
 use super::put_decimal;
@@ -28,6 +28,7 @@ pub fn put_answer(line: &mut [u8; 1024], n: usize, words: &[u64; 128], answer: A
             number,
             reach,
             need,
+            lacked: _,
         } => {
             let mut m = put_text(line, n, b"no ");
             m = put_decimal(line, m, number);

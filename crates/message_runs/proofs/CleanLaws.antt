@@ -30,7 +30,7 @@ unfolding cleanReach
 clean-is (accept false q zero R) h = record { recs = R; is = cc }
 clean-is (accept false q (suc m) R) h = let y : _≡_ {A = ℕ} 0 1 = cc in absurd (omega arith)
 clean-is (accept true q m R) h = let y : _≡_ {A = ℕ} 0 1 = cc in absurd (omega arith)
-clean-is (ranOut q) h = let y : _≡_ {A = ℕ} 0 1 = cc in absurd (omega arith)
+clean-is (ranOut q lacked) h = let y : _≡_ {A = ℕ} 0 1 = cc in absurd (omega arith)
 clean-is (badly q) h = let y : _≡_ {A = ℕ} 0 1 = cc in absurd (omega arith)
 clean-is (unsupplied q) h = let y : _≡_ {A = ℕ} 0 1 = cc in absurd (omega arith)
 

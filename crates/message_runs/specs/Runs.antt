@@ -24,7 +24,7 @@ unfoldable pub cleanReach : Reply → Option ℕ
 cleanReach (accept false p zero R) = some p
 cleanReach (accept false p (suc m) R) = none
 cleanReach (accept true p m R) = none
-cleanReach (ranOut p) = none
+cleanReach (ranOut p lacked) = none
 cleanReach (badly p) = none
 cleanReach (unsupplied p) = none
 

@@ -16,7 +16,7 @@ use Rattle.atn.proofs.Marks.{or-assoc, or-commutes, or-nil}
 use Rattle.atn.proofs.Steps.{fetch-go, fetch-no}
 use Rattle.cursor.specs.declared.place.Cursor.{Cursor}
 use Rattle.cursor.specs.declared.place.Got.{Got}
-use Rattle.cursor.specs.Place.{put, stopped, marked, Inside, Pulled, stuck, short, got, Pulls, Led, stayed, went, failed, Reads, Takes}
+use Rattle.cursor.specs.Place.{number, put, stopped, marked, Inside, Pulled, stuck, short, got, Pulls, Led, stayed, went, failed, Reads, Takes}
 use Rattle.cursor.specs.Formats.{Fields}
 use Rattle.cursor.proofs.Laws.{led-stays, led-from, reads-then, reads-ok, marked-nil}
 use Rattle.cursor.proofs.FormatLaws.{reads-going, fields-must, takes-back}
@@ -28,21 +28,21 @@ use Rattle.positions.specs.Positions.{Flagged, shutAlready, ranShort, fl
 module _ {s : List ℕ} {c : Cursor} (g : Got) (p : Pulls s c 1 g) where
   pub flag-clear : g .v ≡ 0 → Flags s c g
   unfolding unreadMark
-  flag-clear z = record { gave = λ i. go (p .gave i) }
+  flag-clear z = record { gave = λ i. go i (p .gave i) }
     where
-      go : Pulled s c 1 g → Flagged s c g
-      go (stuck h q) = shutAlready h q
-      go (short h l q) = ranShort h l q
-      go (got h l v q) = flagged h l (v ∙ uint-one (bitOf s) (c .at)) (q ∙ rw (z, or-nil (c .marks)))
+      go : Inside s c → Pulled s c 1 g → Flagged s c g
+      go i (stuck h q) = shutAlready h q
+      go i (short h l q) = let one : c .at + 1 - c .end ≡ 1 = omega (arith, i .0) in ranShort h l (q ∙ rw one)
+      go i (got h l v q) = flagged h l (v ∙ uint-one (bitOf s) (c .at)) (q ∙ rw (z, or-nil (c .marks)))
 
   pub flag-set : {d : Cursor} → (g .v ≡ 0 → ⊥) → d ≡ marked (g .c) 8 → Flags s c (record { v = 1; c = d })
   unfolding unreadMark mark marked stopped
-  flag-set {d} n e = record { gave = λ i. go (pulls-last 1 1 g refl p (omega arith) .gave i) }
+  flag-set {d} n e = record { gave = λ i. go i (pulls-last 1 1 g refl p (omega arith) .gave i) }
     where
-      go : Pulled s c 1 (record { v = 1; c = g .c }) → Flagged s c (record { v = 1; c = d })
-      go (stuck h q) = shutAlready h (e ∙ rw (q, ne-eqb (c .why) 0 h))
-      go (short h l q) = ranShort h l (e ∙ rw q)
-      go (got h l v q) = flagged h l (v ∙ uint-one (bitOf s) (c .at)) (e ∙ rw q)
+      go : Inside s c → Pulled s c 1 (record { v = 1; c = g .c }) → Flagged s c (record { v = 1; c = d })
+      go i (stuck h q) = shutAlready h (e ∙ rw (q, ne-eqb (c .why) 0 h))
+      go i (short h l q) = let one : c .at + 1 - c .end ≡ 1 = omega (arith, i .0) in ranShort h l (e ∙ rw (q, one))
+      go i (got h l v q) = flagged h l (v ∙ uint-one (bitOf s) (c .at)) (e ∙ rw q)
 
 ---------------------------------------------------------------- a cursor that has a mark keeps it
 
@@ -115,8 +115,8 @@ absorbed m x y h = or-assoc m (or x y) x ∙ ap (or m) (or-commutes (or x y) x �
 -- what two bits gave
 data Both (s : List ℕ) (c : Cursor) (a b : Got) : Type 0 where
   stopped-before : (c .why ≡ 0 → ⊥) → b .c ≡ c → Both s c a b
-  none-there : c .why ≡ 0 → c .end ≡ c .at → b .c ≡ put c (c .at) 4 (c .marks) → Both s c a b
-  one-there : c .why ≡ 0 → c .end ≡ c .at + 1 → b .c ≡ put c (c .end) 4 (or (c .marks) (unreadMark (bitOf s (c .at)))) → Both s c a b
+  none-there : c .why ≡ 0 → c .end ≡ c .at → b .c ≡ put c (c .at) (number (out 1)) (c .marks) → Both s c a b
+  one-there : c .why ≡ 0 → c .end ≡ c .at + 1 → b .c ≡ put c (c .end) (number (out 1)) (or (c .marks) (unreadMark (bitOf s (c .at)))) → Both s c a b
   both-there : c .why ≡ 0 → c .at + 2 ≤ c .end → a .v ≡ bitOf s (c .at) → b .v ≡ bitOf s (suc (c .at)) → b .c ≡ put c (c .at + 2) 0 (or (c .marks) (twoMarks (bitOf s) (c .at))) → Both s c a b
 
 flag-inside : {s : List ℕ} {c : Cursor} {a : Got} → Inside s c → Flagged s c a → Inside s (a .c)
@@ -130,8 +130,8 @@ module _ {s : List ℕ} {c : Cursor} {a b : Got} where
   both i (shutAlready h q) (ranShort k l r) = absurd (h (rw q at k))
   both i (shutAlready h q) (flagged k l v r) = absurd (h (rw q at k))
   both i (ranShort h l q) (shutAlready k r) = none-there h (omega (arith, i .0)) (r ∙ q)
-  both i (ranShort h l q) (ranShort k m r) = absurd (let y : 4 ≡ 0 = rw q at k in omega arith)
-  both i (ranShort h l q) (flagged k m v r) = absurd (let y : 4 ≡ 0 = rw q at k in omega arith)
+  both i (ranShort h l q) (ranShort k m r) = absurd (let y = rw q at k in omega arith)
+  both i (ranShort h l q) (flagged k m v r) = absurd (let y = rw q at k in omega arith)
   both i (flagged h l v q) (shutAlready k r) = absurd (k (rw q))
   both i (flagged h l v q) (ranShort k m r) =
       let e : c .end < c .at + 1 + 1 = rw q at m in
@@ -153,26 +153,26 @@ module _ {s : List ℕ} {c : Cursor} {a b : Got} where
 
     first-bit : Both s c a b → b .c .why ≡ 0 → a .v ≡ bitOf s (c .at)
     first-bit (stopped-before h q) z = absurd (h (rw q at z))
-    first-bit (none-there h e q) z = absurd (let y : 4 ≡ 0 = rw q at z in omega arith)
-    first-bit (one-there h e q) z = absurd (let y : 4 ≡ 0 = rw q at z in omega arith)
+    first-bit (none-there h e q) z = absurd (let y = rw q at z in omega arith)
+    first-bit (one-there h e q) z = absurd (let y = rw q at z in omega arith)
     first-bit (both-there h l v w q) z = v
 
     second-bit : Both s c a b → b .c .why ≡ 0 → b .v ≡ bitOf s (suc (c .at))
     second-bit (stopped-before h q) z = absurd (h (rw q at z))
-    second-bit (none-there h e q) z = absurd (let y : 4 ≡ 0 = rw q at z in omega arith)
-    second-bit (one-there h e q) z = absurd (let y : 4 ≡ 0 = rw q at z in omega arith)
+    second-bit (none-there h e q) z = absurd (let y = rw q at z in omega arith)
+    second-bit (one-there h e q) z = absurd (let y = rw q at z in omega arith)
     second-bit (both-there h l v w q) z = w
 
     has-first : Both s c a b → Has (unreadMark (a .v)) (b .c)
     has-first (stopped-before h q) z = absurd (h (rw q at z))
-    has-first (none-there h e q) z = absurd (let y : 4 ≡ 0 = rw q at z in omega arith)
-    has-first (one-there h e q) z = absurd (let y : 4 ≡ 0 = rw q at z in omega arith)
+    has-first (none-there h e q) z = absurd (let y = rw q at z in omega arith)
+    has-first (one-there h e q) z = absurd (let y = rw q at z in omega arith)
     has-first (both-there h l v w q) z = rw (q, v) (absorbed (c .marks) (unreadMark (bitOf s (c .at))) _ (unread-twice (bitOf s (c .at))))
 
     has-second : Both s c a b → Has (unreadMark (b .v)) (b .c)
     has-second (stopped-before h q) z = absurd (h (rw q at z))
-    has-second (none-there h e q) z = absurd (let y : 4 ≡ 0 = rw q at z in omega arith)
-    has-second (one-there h e q) z = absurd (let y : 4 ≡ 0 = rw q at z in omega arith)
+    has-second (none-there h e q) z = absurd (let y = rw q at z in omega arith)
+    has-second (one-there h e q) z = absurd (let y = rw q at z in omega arith)
     has-second (both-there h l v w q) z =
         let x : ℕ = unreadMark (bitOf s (c .at)) in
         let y : ℕ = unreadMark (bitOf s (suc (c .at))) in
@@ -190,11 +190,11 @@ module _ {s : List ℕ} {c : Cursor} {a b : Got} where
       go x i (stopped-before z q) k l = stayed z (led-stays _ (b .c) d (rw q z) l ∙ q)
       go x i (none-there z e q) k l =
           let f : c .at + (c .end - c .at) ≡ c .at = omega arith in
-          failed out (c .at) 0 [] (λ y. omega arith) z (fetch-no (bitOf s) (c .end) (c .at) (flags fs) _ _ (omega arith) ∙ rw (f, m, none-within (bitOf s) (c .end) (c .at) (omega arith))) (i .0)
+          failed (out 1) (c .at) 0 [] (λ y. omega arith) z (fetch-no (bitOf s) (c .end) (c .at) (flags fs) _ _ (omega arith) ∙ rw (f, m, none-within (bitOf s) (c .end) (c .at) (omega arith))) (i .0)
           (led-stays _ (b .c) d (rw q (λ y. omega arith)) l ∙ q ∙ rw (or-nil (c .marks)))
       go x i (one-there z e q) k l =
           let f : c .at + (c .end - c .at) ≡ c .end = omega arith in
-          failed out (c .end) (unreadMark (bitOf s (c .at))) [] (λ y. omega arith) z
+          failed (out 1) (c .end) (unreadMark (bitOf s (c .at))) [] (λ y. omega arith) z
           (fetch-no (bitOf s) (c .end) (c .at) (flags fs) _ _ (omega arith) ∙ rw (f, m, one-within (bitOf s) (c .end) (c .at) e)) (omega arith)
           (led-stays _ (b .c) d (rw q (λ y. omega arith)) l ∙ q)
       go x i (both-there z l v w q) k _ =

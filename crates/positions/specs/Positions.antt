@@ -3,12 +3,13 @@ use mathlib.Core.Path.{_≡_}
 use mathlib.Core.List.{List, [], _∷_, _++_}
 use Prim.Native.Nat.{ℕ, _+_, _≤_, _<_}
 use Rattle.x691.specs.Bits.{bitOf}
+use Rattle.atn.specs.Format.{out}
 use Rattle.atn.specs.Reading.{Rec, rec, or, unreadMark}
 use Rattle.atn.specs.Messages as message
 use Rattle.atn.specs.Tags as tag
 use Rattle.cursor.specs.declared.place.Cursor.{Cursor}
 use Rattle.cursor.specs.declared.place.Got.{Got}
-use Rattle.cursor.specs.Place.{put, Inside, Takes}
+use Rattle.cursor.specs.Place.{number, put, Inside, Takes}
 use Rattle.character_strings.specs.Texts.{textRecs}
 use Rattle.positions.specs.declared.Position.{Position}
 use Rattle.positions.specs.declared.Position.the-variants.{Fix, Navaid, Airport, Coordinates, Unread}
@@ -54,7 +55,7 @@ pub record Positions (s : List ℕ) (c : Cursor) (r : PositionAt) : Type 0 where
 -- What the presence bit of a part that is not read gave: nothing behind a failure; ran out without moving; or the bit, with its mark.
 pub data Flagged (s : List ℕ) (c : Cursor) (g : Got) : Type 0 where
   shutAlready : (c .why ≡ 0 → ⊥) → g .c ≡ c → Flagged s c g
-  ranShort : c .why ≡ 0 → c .end < c .at + 1 → g .c ≡ put c (c .at) 4 (c .marks) → Flagged s c g
+  ranShort : c .why ≡ 0 → c .end < c .at + 1 → g .c ≡ put c (c .at) (number (out 1)) (c .marks) → Flagged s c g
   flagged : c .why ≡ 0 → c .at + 1 ≤ c .end → g .v ≡ bitOf s (c .at) → g .c ≡ put c (c .at + 1) 0 (or (c .marks) (unreadMark (g .v))) → Flagged s c g
 
 pub record Flags (s : List ℕ) (c : Cursor) (g : Got) : Type 0 where

@@ -98,7 +98,7 @@ fn told(label: &[u8], v: u64, why: u64) {
 
 // How it ended: why the reading stopped, the mark set and the reach.
 pub fn ended(c: Cursor) {
-    told(b"\nwhy ", c.why, 0);
+    told(b"\nwhy ", c.why % 16, 0);
     told(b" marks ", c.marks, 0);
     told(b" reach ", c.at as u64, 0);
     io::write_all(1, b"\n\n");

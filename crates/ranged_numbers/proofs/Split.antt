@@ -42,7 +42,7 @@ pull-went {s} {c} {n} {g} p z i = go (p .gave i)
   where
     go : Pulled s c n g → Went s c n g
     go (stuck h q) = absurd (h (rw q at z))
-    go (short h l q) = absurd (let y : 4 ≡ 0 = rw q at z in omega arith)
+    go (short h l q) = absurd (let y = rw q at z in omega arith)
     go (got h l v q) = record { from = ap (λ (w : ℕ). put c (c .at) w (c .marks)) h; to = q; stands = record { room = l; spelt = v } }
 
 ---------------------------------------------------------------- numbers of them

@@ -48,7 +48,7 @@ fn less_raw(words: &mut [u64; 128], place: usize, raw: u64) {
 
 fn put_refused(line: &mut [u8; 1024], c: Cursor) -> usize {
     let mut n = put_text(line, 0, b"no ");
-    n = put_decimal(line, n, c.why);
+    n = put_decimal(line, n, c.why % 16);
     n = put(line, n, b' ');
     put_place(line, n, c)
 }

@@ -2,23 +2,24 @@
 use mathlib.Core.Path.{_≡_, refl, sym, ap, _∙_}
 use mathlib.Core.Bool.{Bool, true, false, cond}
 use mathlib.Core.List.{List}
-use Prim.Native.Nat.{ℕ, zero, suc, _+_, _*_, _≤_, _<_}
+use Prim.Native.Nat.{ℕ, zero, suc, _+_, _-_, _*_, _≤_, _<_}
 use native.Mathlib.Omega.{arith}
 use lib.ListN.{length}
 use lib.Dec.{leb, eqb}
 use borrow.Author.Tests.{leb-true, leb-false, eq-eqb, ne-eqb}
+use Rattle.atn.specs.Format.{out}
 use Rattle.atn.specs.Reading.{or}
 use Rattle.cursor.specs.declared.place.Cursor.{Cursor}
 use Rattle.cursor.specs.declared.place.Got.{Got}
-use Rattle.cursor.specs.Place.{put, stopped, Inside, Pulled, stuck, short, got}
+use Rattle.cursor.specs.Place.{number, put, stopped, Inside, Pulled, stuck, short, got}
 use Rattle.reader.specs.Reads.{Took}
 
 module _ (s : List ℕ) (c : Cursor) (n : ℕ) where
   stops : (c .why ≡ 0 → ⊥) → {d : Cursor} → d ≡ c → d .why ≡ 0 → ⊥
   stops y q z = y (sym (ap (λ (e : Cursor). e .why) q) ∙ z)
 
-  runs-out : {d : Cursor} {p m : ℕ} → d ≡ put c p 4 m → d .why ≡ 0 → ⊥
-  runs-out q z = let y : _≡_ {A = ℕ} 4 0 = sym (ap (λ (e : Cursor). e .why) q) ∙ z in omega arith
+  runs-out : {d : Cursor} (k : ℕ) {p m : ℕ} → d ≡ put c p (number (out k)) m → d .why ≡ 0 → ⊥
+  runs-out k q z = let y : number (out k) ≡ 0 = sym (ap (λ (e : Cursor). e .why) q) ∙ z in omega arith
 
   -- off the frame it has stopped too
   lost : {d : Cursor} → d ≡ stopped c 4 0 → d .why ≡ 0 → ⊥
@@ -26,7 +27,7 @@ module _ (s : List ℕ) (c : Cursor) (n : ℕ) where
   lost {d} q = go (c .why) refl
     where
       go : (w : ℕ) → c .why ≡ w → d .why ≡ 0 → ⊥
-      go zero e = runs-out {p = c .at} {m = or (c .marks) 0} (q ∙ rw (eq-eqb (c .why) 0 e))
+      go zero e = runs-out 0 {p = c .at} {m = or (c .marks) 0} (q ∙ rw (eq-eqb (c .why) 0 e))
       go (suc w) e = let y : c .why ≡ 0 → ⊥ = (λ z. omega arith) in stops y (q ∙ rw (ne-eqb (c .why) 0 y))
 
   module _ {g h : Got} (a : Took s c n g) (b : Took s c n h) where
@@ -39,7 +40,7 @@ module _ (s : List ℕ) (c : Cursor) (n : ℕ) where
     in-frame (stuck y q) (short w l r) = absurd (y w)
     in-frame (stuck y q) (got w l v r) = absurd (y w)
     in-frame (short w l q) (stuck y r) = absurd (y w)
-    in-frame (short w l q) (short x k r) = neither (q ∙ sym r) (runs-out q)
+    in-frame (short w l q) (short x k r) = neither (q ∙ sym r) (runs-out (c .at + n - c .end) q)
     in-frame (short w l q) (got x k v r) = absurd (omega arith)
     in-frame (got w l v q) (stuck y r) = absurd (y w)
     in-frame (got w l v q) (short x k r) = absurd (omega arith)

@@ -22,15 +22,15 @@ counted {rs = rs} p = p .count ∙ zero-add (length rs)
 module _ {w v : List ℕ} (stayed : v ≡ w) {r : Reply} where
   ---------------------------------------------------------------- a reading that is refused
 
-  pub settle-out : {p : ℕ} → r ≡ ranOut p → _≡_ {A = Outcome} (refused 4 p 0, v) (settle r w)
+  pub settle-out : {p k : ℕ} → r ≡ ranOut p k → _≡_ {A = Outcome} (refused 4 p 0 k, v) (settle r w)
   unfolding settle
   settle-out e = rw (e, stayed)
 
-  pub settle-bad : {p : ℕ} → r ≡ badly p → _≡_ {A = Outcome} (refused 5 p 0, v) (settle r w)
+  pub settle-bad : {p : ℕ} → r ≡ badly p → _≡_ {A = Outcome} (refused 5 p 0 0, v) (settle r w)
   unfolding settle
   settle-bad e = rw (e, stayed)
 
-  pub settle-lack : {p : ℕ} → r ≡ unsupplied p → _≡_ {A = Outcome} (refused 6 p 0, v) (settle r w)
+  pub settle-lack : {p : ℕ} → r ≡ unsupplied p → _≡_ {A = Outcome} (refused 6 p 0 0, v) (settle r w)
   unfolding settle
   settle-lack e = rw (e, stayed)
 
@@ -40,7 +40,7 @@ module _ {w v : List ℕ} (stayed : v ≡ w) {r : Reply} where
     needed : need rs ≡ d
     needed = need-space rs ∙ sym (needs ∙ ap space counts)
 
-    pub settle-full : length v < d → _≡_ {A = Outcome} (refused 7 p d, v) (settle r w)
+    pub settle-full : length v < d → _≡_ {A = Outcome} (refused 7 p d 0, v) (settle r w)
     unfolding settle
     settle-full h = rw (reads, needed, lt-leb d (length w) (rw stayed at h), stayed)
 

@@ -63,6 +63,7 @@ pub fn heard(
             number,
             reach,
             need,
+            lacked,
         } => not_clean(gathered, output),
     }
 }

@@ -2,7 +2,7 @@
 use mathlib.Core.Path.{_≡_, refl, sym, ap, _∙_}
 use mathlib.Core.Bool.{Bool, true, false}
 use mathlib.Core.List.{List, [], _∷_}
-use Prim.Native.Nat.{ℕ, _+_}
+use Prim.Native.Nat.{ℕ, _+_, _%_}
 use native.Mathlib.Nat.{zero-add}
 use native.Mathlib.Omega.{arith}
 use Rattle.x691.specs.Bits.{bitOf}
@@ -77,27 +77,27 @@ module _ (x : Ctx) {s : List ℕ} {c : Cursor} {n : ℕ} {w : List ℕ} where
 ---------------------------------------------------------------- a part that is passed over where it fails, its records dropped
 
 module _ (t : ℕ) (k : ℕ → ℕ → Ans) {c d : Cursor} {R : List Rec} (h : Led k c d R) (z : c .why ≡ 0) where
-  pub soft-went : (d .why ≡ 4 → ⊥) → (d .why ≡ 5 → ⊥) → Ran (λ u p. softly t false (k u p)) c d R
+  pub soft-went : (d .why % 16 ≡ 4 → ⊥) → (d .why ≡ 5 → ⊥) → Ran (λ u p. softly t false (k u p)) c d R
   unfolding softly passOver
   soft-went n₄ n₅ = go h
     where
       go : Led k c d R → Ran (λ u p. softly t false (k u p)) c d R
       go (place.Led.stayed n q) = absurd (n z)
       go (place.Led.went p m y a l q) = went p m y (rw a) l q
-      go (place.Led.failed out p m S n y a l q) = absurd (n₄ (rw q refl))
+      go (place.Led.failed (out lacked) p m S n y a l q) = absurd (n₄ (rw q (omega arith)))
       go (place.Led.failed bad p m S n y a l q) = absurd (n₅ (rw q refl))
       go (place.Led.failed lack p m S n y a l q) = failed lack p m S n y (rw a) l q
       go (place.Led.failed (quit o j v) p m S n y a l q) = absurd (n refl)
 
   -- ran out: cut
-  pub soft-out : d .why ≡ 4 → Ran (λ u p. softly t false (k u p)) c (put d (d .at) 7 (d .marks)) []
+  pub soft-out : d .why % 16 ≡ 4 → Ran (λ u p. softly t false (k u p)) c (put d (d .at) 7 (d .marks)) []
   unfolding softly passOver kept
   soft-out z₄ = go h
     where
       go : Led k c d R → Ran (λ u p. softly t false (k u p)) c (put d (d .at) 7 (d .marks)) []
       go (place.Led.stayed n q) = absurd (n z)
       go (place.Led.went p m y a l q) = absurd (let x : 0 ≡ 4 = rw q at z₄ in omega arith)
-      go (place.Led.failed out p m S n y a l q) = passed p m y (rw a) l (rw q)
+      go (place.Led.failed (out lacked) p m S n y a l q) = passed lacked p m y (rw a) l (rw q)
       go (place.Led.failed bad p m S n y a l q) = absurd (let x : 5 ≡ 4 = rw q at z₄ in omega arith)
       go (place.Led.failed lack p m S n y a l q) = absurd (let x : 6 ≡ 4 = rw q at z₄ in omega arith)
       go (place.Led.failed (quit o j v) p m S n y a l q) = absurd (n refl)
@@ -110,7 +110,7 @@ module _ (t : ℕ) (k : ℕ → ℕ → Ans) {c d : Cursor} {R : List Rec} (h : 
       go : Led k c d R → Ran (λ u p. softly t false (k u p)) c (put d (d .at) 0 (or (d .marks) (mark t))) []
       go (place.Led.stayed n q) = absurd (n z)
       go (place.Led.went p m y a l q) = absurd (let x : 0 ≡ 5 = rw q at z₅ in omega arith)
-      go (place.Led.failed out p m S n y a l q) = absurd (let x : 4 ≡ 5 = rw q at z₅ in omega arith)
+      go (place.Led.failed (out lacked) p m S n y a l q) = absurd (let x = rw q at z₅ in omega arith)
       go (place.Led.failed bad p m S n y a l q) = went p (or (mark t) m) y (rw a) l (rw q (ap (put c p 0) (or-assoc (c .marks) m (mark t) ∙ ap (or (c .marks)) (or-commutes m (mark t)))))
       go (place.Led.failed lack p m S n y a l q) = absurd (let x : 6 ≡ 5 = rw q at z₅ in omega arith)
       go (place.Led.failed (quit o j v) p m S n y a l q) = absurd (n refl)

@@ -25,6 +25,7 @@ use Rattle.records.proofs.Telling.{told-none, told-within}
 use Rattle.runs.specs.declared.At.{At}
 use Rattle.runs.specs.Runs.{given, Ran, stayed, went, passed, gaveUp, failed, Runs}
 use Rattle.runs.specs.Windows.{closedWhy, closedMarks, closed, Tells}
+use Rattle.runs.proofs.WindowLaws.{closed-out}
 
 -- the part of the frame from the byte of bit q on, as far as the bit end
 abbrev pub part : List ℕ → ℕ → ℕ → List ℕ
@@ -72,10 +73,10 @@ module _ (f : Fmt) (s : List ℕ) {c d : Cursor} (k : ℕ) (z : placeless f ≡ 
       go : Ran (λ u p. read f (0, 0) (bitOf (part s (c .at) (c .at + k))) u p) (window (c .at) k (d .marks)) r R → Led (stringOf f s k) c (closed d r) R
       go (stayed h _ _) = absurd (h refl)
       go (went p m _ g _ y) = place.Led.went (c .at + k) (or m (unless (eqb p (c .at % 8 + k)) 6)) w (same g ∙ ap (λ t. ok t R (or m (unless (eqb p (c .at % 8 + k)) 6))) e) l (rw (y, q, or-assoc (c .marks) m (unless (eqb p (c .at % 8 + k)) 6)))
-      go (passed p m _ g _ y) = place.Led.went (c .at + k) (or 64 (or m (unless (eqb p (c .at % 8 + k)) 6))) w (same g ∙ ap (λ t. ok t R (or 64 (or m (unless (eqb p (c .at % 8 + k)) 6)))) e) l (rw (y, q, or-swap 64 m (unless (eqb p (c .at % 8 + k)) 6), or-assoc (or (c .marks) m) 64 (unless (eqb p (c .at % 8 + k)) 6), or-assoc (c .marks) m (or 64 (unless (eqb p (c .at % 8 + k)) 6))))
+      go (passed lacked p m _ g _ y) = place.Led.went (c .at + k) (or 64 (or m (unless (eqb p (c .at % 8 + k)) 6))) w (same g ∙ ap (λ t. ok t R (or 64 (or m (unless (eqb p (c .at % 8 + k)) 6)))) e) l (rw (y, q, or-swap 64 m (unless (eqb p (c .at % 8 + k)) 6), or-assoc (or (c .marks) m) 64 (unless (eqb p (c .at % 8 + k)) 6), or-assoc (c .marks) m (or 64 (unless (eqb p (c .at % 8 + k)) 6))))
       go (gaveUp o false t p m _ g _ y) = place.Led.went (c .at + k) (or (mark t) m) w (same g ∙ ap (λ x. ok x R (or (mark t) m)) e) l (rw (y, q))
       go (gaveUp o true t p m _ g _ y) = place.Led.went (c .at + k) (or (mark t) (or m (unless (eqb p (c .at % 8 + k)) 6))) w (same g ∙ ap (λ x. ok x R (or (mark t) (or m (unless (eqb p (c .at % 8 + k)) 6)))) e) l (rw (y, q, or-assoc (c .marks) (or (mark t) m) (unless (eqb p (c .at % 8 + k)) 6), or-assoc (mark t) m (unless (eqb p (c .at % 8 + k)) 6)))
-      go (failed out p m S n _ g _ y) = place.Led.failed bad (c .at + k) m S (λ h. omega arith) w (same g ∙ ap (λ t. stop bad t S m) e) l (rw (y, q))
+      go (failed (out lacked) p m S n _ g _ y) = place.Led.failed bad (c .at + k) m S (λ h. omega arith) w (same g ∙ ap (λ t. stop bad t S m) e) l (closed-out d r lacked (ap (λ (x : Cursor). x .why) y) ∙ rw (y, q))
       go (failed bad p m S n _ g _ y) = place.Led.failed bad (c .at + k) m S (λ h. omega arith) w (same g ∙ ap (λ t. stop bad t S m) e) l (rw (y, q))
       go (failed lack p m S n _ g _ y) = place.Led.failed lack (c .at + k) m S (λ h. omega arith) w (same g ∙ ap (λ t. stop lack t S m) e) l (rw (y, q))
       go (failed (quit o j t) p m S n _ g _ y) = absurd (n refl)
@@ -99,7 +100,7 @@ module _ (f : Fmt) {s : List ℕ} {c d : Cursor} {l : Measured} (z : placeless f
     where
       go : Inside s (l .c) → Pulled s (l .c) (l .count) (record { v = uint (bitOf s) (l .c .at) (l .count); c = d }) → Led (stringOf f s (l .count)) (l .c) d []
       go i (stuck g q) = place.Led.stayed g q
-      go i (short g y q) = place.Led.failed out (l .c .at) 0 [] (λ x. omega arith) g (pull-no (bitOf s) (l .c .end) (l .c .at) (l .count) _ y) (i .0) (q ∙ rw (or-nil (l .c .marks)))
+      go i (short g y q) = place.Led.failed (out (l .c .at + l .count - l .c .end)) (l .c .at) 0 [] (λ x. omega arith) g (pull-no (bitOf s) (l .c .end) (l .c .at) (l .count) _ y) (i .0) (q ∙ rw (or-nil (l .c .marks)))
       go i (got g y v q) = absurd (h (rw q refl))
 
   -- it is there, and was read as a part of the frame
@@ -109,7 +110,7 @@ module _ (f : Fmt) {s : List ℕ} {c d : Cursor} {l : Measured} (z : placeless f
     where
       go : Inside s (l .c) → Pulled s (l .c) (l .count) (record { v = uint (bitOf s) (l .c .at) (l .count); c = d }) → Led (stringOf f s (l .count)) (l .c) (closed d (r .c)) (x .recs)
       go i (stuck g q) = absurd (g (rw q at h))
-      go i (short g y q) = absurd (let u : 4 ≡ 0 = rw q at h in omega arith)
+      go i (short g y q) = absurd (let u = rw q at h in omega arith)
       go i (got g y v q) = close-led f s (l .count) z i g y q (x .ran inside)
         where
           inside : Inside (part s (l .c .at) (l .c .at + l .count)) (window (l .c .at) (l .count) (d .marks))
@@ -121,5 +122,5 @@ module _ (f : Fmt) {s : List ℕ} {c d : Cursor} {l : Measured} (z : placeless f
     where
       go : Inside s (l .c) → Pulled s (l .c) (l .count) (record { v = uint (bitOf s) (l .c .at) (l .count); c = d }) → Led (stringOf f s (l .count)) (l .c) e []
       go i (stuck g q) = absurd (g (rw q at h))
-      go i (short g y q) = absurd (let u : 4 ≡ 0 = rw q at h in omega arith)
+      go i (short g y q) = absurd (let u = rw q at h in omega arith)
       go i (got g y v q) = absurd (omega (arith, i .1))

@@ -25,7 +25,7 @@ use Rattle.runs.specs.Runs.{given, Ran, stayed, went, passed, gaveUp, fa
 pub ran-inside : (k : ℕ → ℕ → Ans) (s : List ℕ) (c d : Cursor) {R : List Rec} → Ran k c d R → Inside s c → Inside s d
 ran-inside k s c d (stayed h q r) i = rw q i
 ran-inside k s c d (went p m z a l q) i = rw q (l, i .1)
-ran-inside k s c d (passed p m z a l q) i = rw q (l, i .1)
+ran-inside k s c d (passed lacked p m z a l q) i = rw q (l, i .1)
 ran-inside k s c d (gaveUp o j t p m z a l q) i = rw q (l, i .1)
 ran-inside k s c d (failed w p m S n z a l q) i = rw q (l, i .1)
 
@@ -37,7 +37,7 @@ given-some false h = omega arith
 pub ran-stays : (k : ℕ → ℕ → Ans) (c d : Cursor) {R : List Rec} → (c .why ≡ 0 → ⊥) → Ran k c d R → (d ≡ c) × (R ≡ [])
 ran-stays k c d h (stayed g q r) = (q, r)
 ran-stays k c d h (went p m z a l q) = absurd (h z)
-ran-stays k c d h (passed p m z a l q) = absurd (h z)
+ran-stays k c d h (passed lacked p m z a l q) = absurd (h z)
 ran-stays k c d h (gaveUp o j t p m z a l q) = absurd (h z)
 ran-stays k c d h (failed w p m S n z a l q) = absurd (h z)
 
@@ -54,7 +54,7 @@ module _ (k l : ℕ → ℕ → Ans) {c d e : Cursor} {R S : List Rec} where
   pub ran-then : isPast (k (c .end) (c .at)) ≡ false → Ran k c d R → Ran l d e S → Ran (λ u p. then (k u p) (λ q. l u q)) c e (R ++ S)
   unfolding then glue isPast
   ran-then n (stayed h q r) x = let y = ran-stays l d e (rw q h) x in stayed h (y .0 ∙ q) (rw (r, y .1))
-  ran-then n (passed p m z a b q) x = let y : true ≡ false = rw a at n in let z : _≡_ {A = ℕ} 0 1 = cc in absurd (omega arith)
+  ran-then n (passed lacked p m z a b q) x = let y : true ≡ false = rw a at n in let z : _≡_ {A = ℕ} 0 1 = cc in absurd (omega arith)
   ran-then n (gaveUp o j t p m z a b q) x =
       let y = ran-stays l d e (rw q (given-some j)) x in
       gaveUp o j t p m z (rw (a, y .1, append-nil R)) b (y .0 ∙ q)
@@ -64,7 +64,7 @@ module _ (k l : ℕ → ℕ → Ans) {c d e : Cursor} {R S : List Rec} where
       go : Ran l d e S → Ran (λ u p. then (k u p) (λ q. l u q)) c e (R ++ S)
       go (stayed g y r) = absurd (g (rw q refl))
       go (went p′ m′ z′ a′ b′ q′) = let y : l (c .end) p ≡ ok p′ S m′ = rw q at a′ in went p′ (or m m′) z (rw (a, y)) (rw q at b′) (q′ ∙ rw (q, or-assoc (c .marks) m m′))
-      go (passed p′ m′ z′ a′ b′ q′) = let y : l (c .end) p ≡ past p′ S m′ = rw q at a′ in passed p′ (or m m′) z (rw (a, y)) (rw q at b′) (q′ ∙ rw (q, or-assoc (c .marks) m m′))
+      go (passed lacked p′ m′ z′ a′ b′ q′) = let y : l (c .end) p ≡ past lacked p′ S m′ = rw q at a′ in passed lacked p′ (or m m′) z (rw (a, y)) (rw q at b′) (q′ ∙ rw (q, or-assoc (c .marks) m m′))
       go (gaveUp o j t p′ m′ z′ a′ b′ q′) =
           let y : l (c .end) p ≡ stop (quit o j t) p′ S m′ = rw q at a′ in
           gaveUp o j t p′ (or m m′) z (rw (a, y)) (rw q at b′) (q′ ∙ rw q (ap (put c p′ (given j)) (or-assoc (c .marks) m (or (mark t) m′) ∙ ap (or (c .marks)) (or-swap m (mark t) m′))))
@@ -79,7 +79,7 @@ runs-then k l {s} {c} {r = r} h x y =
 pub ran-same : (k l : ℕ → ℕ → Ans) {c d : Cursor} {R : List Rec} → (c .why ≡ 0 → k (c .end) (c .at) ≡ l (c .end) (c .at)) → Ran k c d R → Ran l c d R
 ran-same k l q (stayed h e y) = stayed h e y
 ran-same k l q (went p m z a h e) = went p m z (sym (q z) ∙ a) h e
-ran-same k l q (passed p m z a h e) = passed p m z (sym (q z) ∙ a) h e
+ran-same k l q (passed lacked p m z a h e) = passed lacked p m z (sym (q z) ∙ a) h e
 ran-same k l q (gaveUp o j t p m z a h e) = gaveUp o j t p m z (sym (q z) ∙ a) h e
 ran-same k l q (failed w p m S n z a h e) = failed w p m S n z (sym (q z) ∙ a) h e
 
@@ -139,7 +139,7 @@ pub ran-lax : (t : ℕ) (j : Bool) (k : ℕ → ℕ → Ans) {c d : Cursor} {R :
 unfolding laxly giveUp
 ran-lax t j k y (place.Led.stayed h q) n₀ n₆ = absurd (h y)
 ran-lax t j k y (place.Led.went p m z a l q) n₀ n₆ = absurd (n₀ (rw q refl))
-ran-lax t j k {c} y (place.Led.failed out p m S n z a l q) n₀ n₆ = gaveUp true j t p m z (rw a) l (rw q (ap (put c p (given j)) (or-assoc (c .marks) m (mark t) ∙ ap (or (c .marks)) (or-commutes m (mark t)))))
+ran-lax t j k {c} y (place.Led.failed (out lacked) p m S n z a l q) n₀ n₆ = gaveUp true j t p m z (rw a) l (rw q (ap (put c p (given j)) (or-assoc (c .marks) m (mark t) ∙ ap (or (c .marks)) (or-commutes m (mark t)))))
 ran-lax t j k {c} y (place.Led.failed bad p m S n z a l q) n₀ n₆ = gaveUp false j t p m z (rw a) l (rw q (ap (put c p (given j)) (or-assoc (c .marks) m (mark t) ∙ ap (or (c .marks)) (or-commutes m (mark t)))))
 ran-lax t j k y (place.Led.failed lack p m S n z a l q) n₀ n₆ = absurd (n₆ (rw q refl))
 ran-lax t j k y (place.Led.failed (quit o i v) p m S n z a l q) n₀ n₆ = absurd (n refl)
@@ -149,7 +149,7 @@ pub led-lax-lack : (t : ℕ) (j : Bool) (k : ℕ → ℕ → Ans) {c d : Cursor}
 unfolding laxly giveUp
 led-lax-lack t j k (place.Led.stayed h q) z = place.Led.stayed h q
 led-lax-lack t j k (place.Led.went p m y a l q) z = absurd (let x : 0 ≡ 6 = rw q at z in omega arith)
-led-lax-lack t j k (place.Led.failed out p m S n y a l q) z = absurd (let x : 4 ≡ 6 = rw q at z in omega arith)
+led-lax-lack t j k (place.Led.failed (out lacked) p m S n y a l q) z = absurd (let x = rw q at z in omega arith)
 led-lax-lack t j k (place.Led.failed bad p m S n y a l q) z = absurd (let x : 5 ≡ 6 = rw q at z in omega arith)
 led-lax-lack t j k (place.Led.failed lack p m S n y a l q) z = place.Led.failed lack p m S n y (rw a) l q
 led-lax-lack t j k (place.Led.failed (quit o i v) p m S n y a l q) z = absurd (n refl)
@@ -159,7 +159,7 @@ led-lax-lack t j k (place.Led.failed (quit o i v) p m S n y a l q) z = absurd (n
 then-end : (a : Ans) → then a (λ p. ok p [] 0) ≡ a
 unfolding then glue late
 then-end (ok p R m) = rw (append-nil R, or-nil m)
-then-end (past p R m) = rw (append-nil R, or-nil m)
+then-end (past lacked p R m) = rw (append-nil R, or-nil m)
 then-end (stop w p R m) = refl
 
 fork-then : (v p : ℕ) (a : Ans) (k : ℕ → Ans) (R : List Rec) → then (fork v (ok p R 0) a) k ≡ fork v (then (ok p R 0) k) (then a k)
@@ -171,7 +171,7 @@ fork-then (suc v) p a k R = refl
 pub ran-back : (k : ℕ → ℕ → Ans) {c d : Cursor} {R : List Rec} → Ran k c d R → d .why ≡ 0 → c .why ≡ 0
 ran-back k (stayed h q r) z = rw q at z
 ran-back k (went p m y a l q) z = y
-ran-back k (passed p m y a l q) z = y
+ran-back k (passed lacked p m y a l q) z = y
 ran-back k (gaveUp o j t p m y a l q) z = y
 ran-back k (failed w p m S n y a l q) z = y
 
@@ -215,7 +215,7 @@ module _ (x : Ctx) (s : List ℕ) {c d : Cursor} {R : List Rec} where
 ran-from : {c e d : Cursor} {p : ℕ} {R : List Rec} (k l : ℕ → ℕ → Ans) → c .why ≡ 0 → e ≡ put c p 0 (c .marks) → k (c .end) p ≡ l (c .end) (c .at) → Ran k e d R → Ran l c d R
 ran-from k l z q y (stayed h x r) = absurd (h (rw q refl))
 ran-from {c} {e} {d} {p} {R} k l z q y (went p′ m w a b x) = let a′ : k (c .end) p ≡ ok p′ R m = rw q at a in went p′ m z (sym y ∙ a′) (rw q at b) (x ∙ rw q)
-ran-from {c} {e} {d} {p} {R} k l z q y (passed p′ m w a b x) = let a′ : k (c .end) p ≡ past p′ R m = rw q at a in passed p′ m z (sym y ∙ a′) (rw q at b) (x ∙ rw q)
+ran-from {c} {e} {d} {p} {R} k l z q y (passed lacked p′ m w a b x) = let a′ : k (c .end) p ≡ past lacked p′ R m = rw q at a in passed lacked p′ m z (sym y ∙ a′) (rw q at b) (x ∙ rw q)
 ran-from {c} {e} {d} {p} {R} k l z q y (gaveUp o j t p′ m w a b x) = let a′ : k (c .end) p ≡ stop (quit o j t) p′ R m = rw q at a in gaveUp o j t p′ m z (sym y ∙ a′) (rw q at b) (x ∙ rw q)
 ran-from {c} {e} {d} {p} {R} k l z q y (failed v p′ m S n w a b x) = let a′ : k (c .end) p ≡ stop v p′ S m = rw q at a in failed v p′ m S n z (sym y ∙ a′) (rw q at b) (x ∙ rw q)
 
@@ -228,7 +228,7 @@ ran-opened {s} {c} {d} fs x n g f a i (ranShort z l q) h =
     let e : c .at + (c .end - c .at) ≡ c .end = omega (arith, i .0) in
     let k = read-unmarked fs (within (bitOf s) (c .end)) (c .at) a in
     let t = ran-stays _ (g .c) d (rw q (λ y. omega arith)) h in
-    failed out (c .end) 0 [] (λ y. omega arith) z (fetch-no (bitOf s) (c .end) (c .at) (flags fs) _ _ (omega arith) ∙ rw (e, k)) (omega arith) (t .0 ∙ q ∙ rw (or-nil (c .marks)))
+    failed (out 1) (c .end) 0 [] (λ y. omega arith) z (fetch-no (bitOf s) (c .end) (c .at) (flags fs) _ _ (omega arith) ∙ rw (e, k)) (omega arith) (t .0 ∙ q ∙ rw (or-nil (c .marks)))
 ran-opened {s} {c} fs x n g f a i (opened z l v q) h =
     ran-from (λ u p. readFields fs x (bitOf s) u (c .at) p) (λ u p. read (seq fs) x (bitOf s) u p) z q
     (sym (fetch-go (bitOf s) (c .end) (c .at) (flags fs) _ _ (omega arith) ∙ rw (read-unmarked fs (bitOf s) (c .at) a, f) (then-nil (c .at + n) (λ p. readFields fs x (bitOf s) (c .end) (c .at) p)))) h
@@ -241,5 +241,5 @@ runs-pull {s = s} {c} {r = r} n g k o y = record { recs = y .recs; ran = λ i. g
     go i (stuck h q) x = let e = ran-stays _ (g .c) (r .c) (rw q h) x in stayed h (e .0 ∙ q) (e .1)
     go i (short z l q) x =
         let t = ran-stays _ (g .c) (r .c) (rw q (λ y. omega arith)) x in
-        failed out (c .at) 0 [] (λ y. omega arith) z (pull-no (bitOf s) (c .end) (c .at) n _ l) (i .0) (t .0 ∙ q ∙ rw (or-nil (c .marks)))
+        failed (out (c .at + n - c .end)) (c .at) 0 [] (λ y. omega arith) z (pull-no (bitOf s) (c .end) (c .at) n _ l) (i .0) (t .0 ∙ q ∙ rw (or-nil (c .marks)))
     go i (got z l v q) x = ran-from (λ u p. k (g .v) u p) (Behind s n k) z q (sym (pull-go (bitOf s) (c .end) (c .at) n _ l ∙ rw (← v))) x

@@ -25,17 +25,17 @@ use Rattle.runs.proofs.RunLaws.{ran-stays, ran-then, ran-same}
 -- what an answer tells of itself
 unfoldable stand : Ans → ℕ
 stand (ok p R m) = p
-stand (past p R m) = p
+stand (past lacked p R m) = p
 stand (stop w p R m) = p
 
 unfoldable marks : Ans → ℕ
 marks (ok p R m) = m
-marks (past p R m) = m
+marks (past lacked p R m) = m
 marks (stop w p R m) = m
 
 unfoldable whys : Ans → ℕ
 whys (ok p R m) = 0
-whys (past p R m) = 0
+whys (past lacked p R m) = 0
 whys (stop w p R m) = number w
 
 unfoldable first : List Rec → ℕ
@@ -44,18 +44,18 @@ first (rec t n v y ∷ R) = t
 
 unfoldable told : Ans → ℕ
 told (ok p R m) = first R
-told (past p R m) = first R
+told (past lacked p R m) = first R
 told (stop w p R m) = first R
 
 unfoldable shape : Ans → ℕ
 shape (ok p R m) = 0
-shape (past p R m) = 1
+shape (past lacked p R m) = 1
 shape (stop w p R m) = 2
 
 -- what a size gave, whatever follows it
 data SizedAt (row : ℕ) (s : List ℕ) (c : Cursor) (g : Got) : Type 0 where
   stuck : (c .why ≡ 0 → ⊥) → g .c ≡ c → SizedAt row s c g
-  short : c .why ≡ 0 → ((K : ℕ → ℕ → Ans) → sized (bitOf s) (c .end) (c .at) (lowest row) (highest row) K ≡ stop out (c .at) [] 0) → g .c ≡ put c (c .at) 4 (c .marks) → SizedAt row s c g
+  short : (o : ℕ) → c .why ≡ 0 → ((K : ℕ → ℕ → Ans) → sized (bitOf s) (c .end) (c .at) (lowest row) (highest row) K ≡ stop (out o) (c .at) [] 0) → g .c ≡ put c (c .at) (number (out o)) (c .marks) → SizedAt row s c g
   got : (p m : ℕ) → c .why ≡ 0 → ((K : ℕ → ℕ → Ans) → sized (bitOf s) (c .end) (c .at) (lowest row) (highest row) K ≡ then (ok p [] m) (λ q. K (g .v) q)) → p ≤ c .end → g .c ≡ put c p 0 (or (c .marks) m)
       → SizedAt row s c g
 
@@ -82,7 +82,7 @@ sized-at row {s} {c} {g} h i = go (h .size (λ n u q. told-size n q) (reads-ok (
     there : c .at + w ≤ c .end → (K : ℕ → ℕ → Ans) → sized (bitOf s) (c .end) (c .at) lo hi K ≡ then (ok (c .at + w) [] (over hi (lo + v))) (λ q. K (lo + v) q)
     there l K = pull-go (bitOf s) (c .end) (c .at) w _ l
 
-    away : c .end < c .at + w → (K : ℕ → ℕ → Ans) → sized (bitOf s) (c .end) (c .at) lo hi K ≡ stop out (c .at) [] 0
+    away : c .end < c .at + w → (K : ℕ → ℕ → Ans) → sized (bitOf s) (c .end) (c .at) lo hi K ≡ stop (out (c .at + w - c .end)) (c .at) [] 0
     away l K = pull-no (bitOf s) (c .end) (c .at) w _ l
 
     go : Led (λ u p. sized (bitOf s) u p lo hi (λ n q. told-size n q)) c (g .c) (rec (g .v) 0 0 0 ∷ []) → SizedAt row s c g
@@ -100,11 +100,11 @@ sized-at row {s} {c} {g} h i = go (h .size (λ n u q. told-size n q) (reads-ok (
         split (c .at + w) (c .end)
         (λ y. absurd (let b : 0 ≡ 2 = ap shape (sym (there y told-size) ∙ a) in omega arith))
         (λ y.
-        let a′ : stop out (c .at) [] 0 ≡ stop x p S m = sym (away y told-size) ∙ a in
+        let a′ : stop (out (c .at + w - c .end)) (c .at) [] 0 ≡ stop x p S m = sym (away y told-size) ∙ a in
         let e₁ : c .at ≡ p = ap stand a′ in
-        let e₂ : 4 ≡ number x = ap whys a′ in
+        let e₂ : number (out (c .at + w - c .end)) ≡ number x = ap whys a′ in
         let e₃ : 0 ≡ m = ap marks a′ in
-        short z (away y) (q ∙ rw (← e₁, ← e₂, ← e₃, or-nil (c .marks))))
+        short (c .at + w - c .end) z (away y) (q ∙ rw (← e₁, ← e₂, ← e₃, or-nil (c .marks))))
 
 pub runs-sized : {b : ℕ} (row : ℕ) (K : ℕ → ℕ → ℕ → Ans) {s : List ℕ} {c : Cursor} {g : Got} {n : ℕ} {w w′ : List ℕ} {r : At} → Sized row s c g → Runs b (λ u p. K (g .v) u p) s (g .c) n w w′ r
     → Runs b (λ u p. sized (bitOf s) u p (lowest row) (highest row) (λ n q. K n u q)) s c n w w′ r
@@ -119,5 +119,5 @@ runs-sized row K {s} {c} {g} {r = r} h y = record { recs = y .recs; ran = λ i. 
 
     go : Inside s c → SizedAt row s c g → Ran k c (r .c) (y .recs)
     go i (stuck n q) = let e = ran-stays l (g .c) (r .c) (rw q n) (y .ran (rw q i)) in stayed n (e .0 ∙ q) (e .1)
-    go i (short z a q) = let e = ran-stays l (g .c) (r .c) (rw q (λ x. omega arith)) (y .ran (rw q i)) in failed out (c .at) 0 [] (λ x. omega arith) z (a (λ n q. K n (c .end) q)) (i .0) (e .0 ∙ q ∙ rw (or-nil (c .marks)))
+    go i (short o z a q) = let e = ran-stays l (g .c) (r .c) (rw q (λ x. omega arith)) (y .ran (rw q i)) in failed (out o) (c .at) 0 [] (λ x. omega arith) z (a (λ n q. K n (c .end) q)) (i .0) (e .0 ∙ q ∙ rw (or-nil (c .marks)))
     go i (got p m z a x q) = ran-same (λ u _. then (ok p [] m) (λ q. l u q)) k (λ _. sym (a (λ n q. K n (c .end) q))) (ran-then (λ _ _. ok p [] m) l refl (went p m z refl x q) (y .ran (rw q (x, i .1))))

@@ -1,7 +1,7 @@
 -- What is left of a reading inside an inner string, for the window around it.
 use mathlib.Core.List.{List}
 use mathlib.Core.Bool.{cond}
-use Prim.Native.Nat.{ℕ, zero, suc}
+use Prim.Native.Nat.{ℕ, zero, suc, _%_}
 use lib.Dec.{eqb}
 use Rattle.atn.specs.Reading.{Ans, Rec, or, unless}
 use Rattle.cursor.specs.declared.place.Cursor.{Cursor}
@@ -11,7 +11,7 @@ use Rattle.runs.specs.declared.At.{At}
 
 -- running past the end of an inner string is never 4; what was given up or passed over is accepted
 unfoldable pub closedWhy : ℕ → ℕ
-closedWhy w = cond (eqb w 4) 5 (cond (eqb w 5) 5 (cond (eqb w 6) 6 0))
+closedWhy w = cond (eqb (w % 16) 4) 5 (cond (eqb w 5) 5 (cond (eqb w 6) 6 0))
 
 -- mark 7 past the end, mark 6 for bits left where they count
 unfoldable pub closedMarks : Cursor → ℕ

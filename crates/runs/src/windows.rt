@@ -24,7 +24,7 @@ pub fn close_window(d: Cursor, r: Cursor) -> Cursor
 fn closed_why(why: u64) -> u64
     ensures { λ w. ⌜ w ≡ closedWhy why ⌝ }
 {
-    if why == 4 {
+    if why % 16 == 4 {
         return 5;
     }
     if why == 5 {

@@ -33,8 +33,8 @@ pub record Binds (c : Call) (w : List ℕ) : Type 0 where
   pub name-new : holds (sameName c) kept ≡ false
   pub place-free : length kept < room w
 
-not-bound : (n p : ℕ) → Refused n p ≡ Bound → ⊥
-not-bound n p e = let z : _≡_ {A = ℕ} 0 1 = cc in omega arith
+not-bound : (n p k : ℕ) → Refused n p k ≡ Bound → ⊥
+not-bound n p k e = let z : _≡_ {A = ℕ} 0 1 = cc in omega arith
 
 -- a choice that has become Bound goes the one way, where the other cannot
 module _ {A : Type 0} (f : A → Offered) where
@@ -58,20 +58,20 @@ module _ (c : Call) (w : List ℕ) where
   module _ (claimed : c .arrived ≤ length (c .capture) * 8) (named : nameOf c .number ≡ 0) (whole : nameOf c .reach ≤ c .arrived) where
     by-book : (o : Option (List Entry)) → held w ≡ o → answered (nameOf c .reach) (add w (entry c) .0) ≡ Bound → Binds c w
     unfolding add opened bookAnswer
-    by-book none h e = absurd (not-bound 18 (nameOf c .reach) (rw (h, opened) at e))
+    by-book none h e = absurd (not-bound 18 (nameOf c .reach) 0 (rw (h, opened) at e))
     by-book (some E) h e =
         let g = named-good (c .capture) (c .down) (c .up) named (c .number) in
         let v = sight c (room w) E in
         let a : bookAnswer (nameOf c .reach) v ≡ Bound = sym (said c (nameOf c .reach) (room w) E g) ∙ sym (ap (answered (nameOf c .reach)) (added c w h)) ∙ e in
-        let t = left (λ (o : Offered). o) (v .taken) _ _ a (not-bound 12 (nameOf c .reach)) in
-        let n = left (λ (o : Option ℕ). elim o [ some k ↦ Repeated k | none ↦ cond (v .free) Bound (Refused 10 (nameOf c .reach)) ]) (holds (sameName c) E) _ _ (t .1) (λ z. let y : _≡_ {A = ℕ} 0 1 = cc in omega arith) in
-        let f = taken (λ (o : Offered). o) (v .free) _ _ (n .1) (not-bound 10 (nameOf c .reach)) in
+        let t = left (λ (o : Offered). o) (v .taken) _ _ a (not-bound 12 (nameOf c .reach) 0) in
+        let n = left (λ (o : Option ℕ). elim o [ some k ↦ Repeated k | none ↦ cond (v .free) Bound (Refused 10 (nameOf c .reach) 0) ]) (holds (sameName c) E) _ _ (t .1) (λ z. let y : _≡_ {A = ℕ} 0 1 = cc in omega arith) in
+        let f = taken (λ (o : Offered). o) (v .free) _ _ (n .1) (not-bound 10 (nameOf c .reach) 0) in
         record { claimed = claimed; named = named; whole = whole; kept = E; sound = h; number-free = t .0; name-new = n .0; place-free = ltb-true (length E) (room w) (f .0) }
 
   pub bound : offer c w .0 ≡ Bound → Binds c w
   unfolding offer
   bound e =
-      let x = taken (λ (o : Offered × List ℕ). o .0) (leb (c .arrived) (length (c .capture) * 8)) _ _ e (not-bound 21 0) in
-      let y = taken (λ (o : Offered × List ℕ). o .0) (eqb (nameOf c .number) 0) _ _ (x .1) (not-bound (nameOf c .number) (nameOf c .reach)) in
-      let z = taken (λ (o : Offered × List ℕ). o .0) (leb (nameOf c .reach) (c .arrived)) _ _ (y .1) (not-bound 22 (nameOf c .reach)) in
+      let x = taken (λ (o : Offered × List ℕ). o .0) (leb (c .arrived) (length (c .capture) * 8)) _ _ e (not-bound 21 0 0) in
+      let y = taken (λ (o : Offered × List ℕ). o .0) (eqb (nameOf c .number) 0) _ _ (x .1) (not-bound (nameOf c .number) (nameOf c .reach) (nameOf c .lacked)) in
+      let z = taken (λ (o : Offered × List ℕ). o .0) (leb (nameOf c .reach) (c .arrived)) _ _ (y .1) (not-bound 22 (nameOf c .reach) 0) in
       by-book (leb-true (c .arrived) (length (c .capture) * 8) (x .0)) (eqb-true (nameOf c .number) 0 (y .0)) (leb-true (nameOf c .reach) (c .arrived) (z .0)) (held w) refl (z .1)

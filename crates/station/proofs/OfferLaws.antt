@@ -18,17 +18,17 @@ use Rattle.station.specs.Offers.{Call, nameOf, entry, answered, offer}
 
 -- the call c on the book w, which answers r
 module _ (c : Call) (w : List ℕ) {r : Offered} where
-  pub too-few : leb (c .arrived) (length (c .capture) * 8) ≡ false → r ≡ Refused 21 0 → Leaves r w (offer c w)
+  pub too-few : leb (c .arrived) (length (c .capture) * 8) ≡ false → r ≡ Refused 21 0 0 → Leaves r w (offer c w)
   unfolding offer
   too-few h a = record { is = rw (h, a) }
 
   module _ (h : leb (c .arrived) (length (c .capture) * 8) ≡ true) {n : Named} (e : n ≡ nameOf c) where
-    pub unnamed : (n .number ≡ 0 → ⊥) → r ≡ Refused (n .number) (n .reach) → Leaves r w (offer c w)
+    pub unnamed : (n .number ≡ 0 → ⊥) → r ≡ Refused (n .number) (n .reach) (n .lacked) → Leaves r w (offer c w)
     unfolding offer
     unnamed z a = record { is = rw (h, a, ← e, ne-eqb (n .number) 0 z) }
 
     module _ (z : n .number ≡ 0) where
-      pub beyond : c .arrived < n .reach → r ≡ Refused 22 (n .reach) → Leaves r w (offer c w)
+      pub beyond : c .arrived < n .reach → r ≡ Refused 22 (n .reach) 0 → Leaves r w (offer c w)
       unfolding offer
       beyond l a = record { is = rw (h, a, ← e, eq-eqb (n .number) 0 z, lt-leb (n .reach) (c .arrived) l) }
 

@@ -27,7 +27,7 @@ unfolding times
 one-kind [] = refl
 one-kind (Bound ∷ A) = omega (arith, one-kind A)
 one-kind (Repeated k ∷ A) = omega (arith, one-kind A)
-one-kind (Refused n p ∷ A) = omega (arith, one-kind A)
+one-kind (Refused n p k ∷ A) = omega (arith, one-kind A)
 
 -- what is counted from n on: in 64 bits
 counts : (fits : Offered → Bool) → ℕ → List Offered → ℕ

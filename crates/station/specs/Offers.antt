@@ -37,8 +37,8 @@ entry c = entryOf (nameOf c) (c .number) (length (c .capture))
 abbrev pub answered : ℕ → Added → Offered
 answered p added.the-variants.New = Bound
 answered p (added.the-variants.Repeated k) = Repeated k
-answered p added.the-variants.NoName = Refused 19 p
-answered p (added.the-variants.Refused n) = Refused n p
+answered p added.the-variants.NoName = Refused 19 p 0
+answered p (added.the-variants.Refused n) = Refused n p 0
 
 -- "21 is asked first, then those of the reading, then 19 for not clean or no name, then 22, then those of the book"
 unfoldable pub offer : Call → List ℕ → Offered × List ℕ
@@ -47,6 +47,6 @@ offer c w =
     (cond (eqb (nameOf c .number) 0)
     (cond (leb (nameOf c .reach) (c .arrived))
     (answered (nameOf c .reach) (add w (entry c) .0), add w (entry c) .1)
-    (Refused 22 (nameOf c .reach), w))
-    (Refused (nameOf c .number) (nameOf c .reach), w))
-    (Refused 21 0, w)
+    (Refused 22 (nameOf c .reach) 0, w))
+    (Refused (nameOf c .number) (nameOf c .reach) (nameOf c .lacked), w))
+    (Refused 21 0 0, w)

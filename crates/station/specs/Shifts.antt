@@ -18,18 +18,18 @@ next n = (n + 1) % 2 ^ 64
 abbrev pub isBound : Offered → Bool
 isBound Bound = true
 isBound (Repeated k) = false
-isBound (Refused n p) = false
+isBound (Refused n p k) = false
 
 abbrev pub isRepeated : Offered → Bool
 isRepeated Bound = false
 isRepeated (Repeated k) = true
-isRepeated (Refused n p) = false
+isRepeated (Refused n p k) = false
 
 -- "the turned away"
 abbrev pub isRefused : Offered → Bool
 isRefused Bound = false
 isRefused (Repeated k) = false
-isRefused (Refused n p) = true
+isRefused (Refused n p k) = true
 
 -- an answer is counted with those offered, and with those of its kind
 abbrev pub counted : Shift → Offered → Shift

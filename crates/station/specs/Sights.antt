@@ -31,7 +31,7 @@ sight c places E = record { taken = holds (numbered (c .number)) E; holder = con
 
 -- the book's answer by what is seen of it, to a message with this reach
 unfoldable pub bookAnswer : ℕ → Sight → Offered
-bookAnswer p v = cond (v .taken) (Refused 12 p) (elim (v .holder) [ some k ↦ Repeated k | none ↦ cond (v .free) Bound (Refused 10 p) ])
+bookAnswer p v = cond (v .taken) (Refused 12 p 0) (elim (v .holder) [ some k ↦ Repeated k | none ↦ cond (v .free) Bound (Refused 10 p 0) ])
 
 -- the station's: by the call alone up to the book
 unfoldable pub answer : Call → Sight → Offered
@@ -40,6 +40,6 @@ answer c v =
     cond (leb (c .arrived) (length (c .capture) * 8))
     (cond (eqb (nameOf c .number) 0)
     (cond (leb (nameOf c .reach) (c .arrived)) (bookAnswer (nameOf c .reach) v)
-    (Refused 22 (nameOf c .reach)))
-    (Refused (nameOf c .number) (nameOf c .reach)))
-    (Refused 21 0)
+    (Refused 22 (nameOf c .reach) 0))
+    (Refused (nameOf c .number) (nameOf c .reach) (nameOf c .lacked)))
+    (Refused 21 0 0)

@@ -11,11 +11,17 @@ use name_book::add_entry;
 use named_entries::entry_of;
 use std::num::wrapping_add_u64;
 
-// Repeated: the calibration number that has the name. Refused: the number of the refusal, and the bits that the reading took, 0 where nothing was read.
+// Repeated: the calibration number that has the name. Refused: the number of the refusal, the bits that the reading took, 0 where nothing was read, and behind 4 the bits lacked.
 pub enum Offered {
     Bound,
-    Repeated { number: u32 },
-    Refused { number: u64, reach: usize },
+    Repeated {
+        number: u32,
+    },
+    Refused {
+        number: u64,
+        reach: usize,
+        lacked: usize,
+    },
 }
 
 // What a station has counted.
@@ -38,14 +44,14 @@ pub fn offer(
     ensures { λ r. ⌜ Leaves r (now (book .exit)) (Offers·offer (call (now (capture .entry)) arrived number (now (down .entry)) (now (up .entry))) (now (book .entry))) ⌝ }
 {
     if !holds_bits(capture.len(), arrived) {
-        return refused(21, 0);
+        return refused(21, 0, 0);
     }
     let name = forward_name(capture, down, up);
     if name.number != 0 {
-        return refused(name.number, name.reach);
+        return refused(name.number, name.reach, name.lacked);
     }
     if arrived < name.reach {
-        return refused(22, name.reach);
+        return refused(22, name.reach, 0);
     }
     let added = add_entry(book, entry_of(name, number, capture.len()));
     answered(added, name.reach)
@@ -71,17 +77,18 @@ fn answered(added: Added, reach: usize) -> Offered
     match added {
         Added::New => Offered::Bound,
         Added::Repeated { number } => Offered::Repeated { number: number },
-        Added::NoName => refused(19, reach),
-        Added::Refused { number } => refused(number, reach),
+        Added::NoName => refused(19, reach, 0),
+        Added::Refused { number } => refused(number, reach, 0),
     }
 }
 
-fn refused(number: u64, reach: usize) -> Offered
-    ensures { λ r. ⌜ r ≡ Offered.Refused number reach ⌝ }
+fn refused(number: u64, reach: usize, lacked: usize) -> Offered
+    ensures { λ r. ⌜ r ≡ Offered.Refused number reach lacked ⌝ }
 {
     Offered::Refused {
         number: number,
         reach: reach,
+        lacked: lacked,
     }
 }
 
@@ -113,6 +120,7 @@ pub fn counted(shift: Shift, answer: Offered) -> Shift
         Offered::Refused {
             number: _,
             reach: _,
+            lacked: _,
         } => {
             s.refused = next(s.refused);
         }

@@ -2,7 +2,7 @@
 use mathlib.Core.Path.{_≡_}
 use mathlib.Core.Bool.{Bool, true, false}
 use mathlib.Core.List.{List}
-use Prim.Native.Nat.{ℕ, _≤_}
+use Prim.Native.Nat.{ℕ, _+_, _*_, _≤_}
 use lib.ListN.{length, take}
 use Rattle.atn.specs.Reading.{Rec}
 use Rattle.atn.specs.Entries.{Reply, accept, ranOut, badly, unsupplied, flat, need}
@@ -11,7 +11,7 @@ use Rattle.verdicts.specs.declared.Verdict.{Verdict}
 unfoldable pub verdictOf : Reply → Verdict
 verdictOf (accept false p m R) = record { why = 0; reach = p; marks = m; count = length R }
 verdictOf (accept true p m R) = record { why = 7; reach = p; marks = m; count = length R }
-verdictOf (ranOut p) = record { why = 4; reach = p; marks = 0; count = 0 }
+verdictOf (ranOut p k) = record { why = 4 + 16 * k; reach = p; marks = 0; count = 0 }
 verdictOf (badly p) = record { why = 5; reach = p; marks = 0; count = 0 }
 verdictOf (unsupplied p) = record { why = 6; reach = p; marks = 0; count = 0 }
 

@@ -28,7 +28,7 @@ pub fn print(kind: &[u8], frame: &[u8], g: Got) {
     } else {
         io::write_all(1, b": -");
     }
-    number(b" why ", c.why);
+    number(b" why ", c.why % 16);
     number(b" marks ", c.marks);
     number(b" reach ", c.at as u64);
     io::write_all(1, b"\n");

@@ -44,7 +44,11 @@ fn put_answer(line: &mut [u8; 1024], n: usize, answer: Offered) -> usize {
             let m = put_text(line, n, b"repeated ");
             put_decimal(line, m, number as u64)
         }
-        Offered::Refused { number, reach } => {
+        Offered::Refused {
+            number,
+            reach,
+            lacked: _,
+        } => {
             let mut m = put_text(line, n, b"no ");
             m = put_decimal(line, m, number);
             m = put_text(line, m, b" ");

@@ -44,8 +44,8 @@ function shown(outcome, room) {
 
 function said(name, parts, words) {
   if (name === 'refused') {
-    const [number, reach, need] = parts;
-    return `no ${number} ${reach}` + (number === 7 ? ` ${need}` : '');
+    const [number, reach, need, lacked] = parts;
+    return `no ${number} ${reach}` + (number === 7 ? ` ${need}` : '') + (number === 4 ? ` ${lacked}` : '');
   }
   const [cut, reach, marks, count] = parts;
   let text = `ok ${cut ? 'cut' : 'whole'} ${reach} ${marks} ${count}`;

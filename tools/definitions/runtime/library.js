@@ -49,6 +49,10 @@ function largest(a, b) {
   return a < b ? b : a;
 }
 
+function smallest(a, b) {
+  return a < b ? a : b;
+}
+
 function bitOr(a, b) {
   if (small(a, b) && a < 2 ** 31 && b < 2 ** 31) return a | b;
   return held(BigInt(a) | BigInt(b));
@@ -89,4 +93,4 @@ function append(list, more) {
   return made;
 }
 
-module.exports = { ...values, add, pred, monus, times, quotient, remainder, power, largest, bitOr, leb, ltb, eqb, length, drop, getD, append };
+module.exports = { ...values, add, pred, monus, times, quotient, remainder, power, largest, smallest, bitOr, leb, ltb, eqb, length, drop, getD, append };

@@ -10,6 +10,7 @@ const LAWS = {
   quotient: (a, b) => (b === 0n ? 0n : a / b),
   remainder: (a, b) => (b === 0n ? a : a % b),
   largest: (a, b) => (a < b ? b : a),
+  smallest: (a, b) => (a < b ? a : b),
   bitOr: (a, b) => a | b,
   leb: (a, b) => a <= b,
   ltb: (a, b) => a < b,

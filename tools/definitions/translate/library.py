@@ -46,6 +46,7 @@ MEANING = {
         '_%_': Native('remainder', 'vv'),          # x % 0 = x
         '_^_': Native('power', 'vv'),
         'max': Native('largest', 'vv'),
+        'min': Native('smallest', 'vv'),
     },
     'mathlib.Core.Bool': {
         'Bool': BOOL, 'true': TRUE, 'false': FALSE,

@@ -39,7 +39,9 @@ def record_of(text):
 
 @dataclass
 class Answer:
-    """`ok whole|cut REACH MARKS COUNT;tag,element,value,second;...` or `no NUMBER REACH`, and the need after it for 7.
+    """`ok whole|cut REACH MARKS COUNT;tag,element,value,second;...` or `no NUMBER REACH`, and after it the need for 7, the bits lacked for 4.
+
+    The Rust does not say how many bits were lacked, so that a line made from its answers has no such number.
 
     Any other line is taken as the end `not an answer`, which agrees with nothing.
     """
@@ -49,6 +51,7 @@ class Answer:
     marks: int = 0
     count: int = 0
     need: int = 0
+    lacked: int = 0
     records: tuple = ()
 
     @classmethod
@@ -56,8 +59,9 @@ class Answer:
         head, *records = line.split(";")
         words = head.split()
         try:
-            if words[:1] == ["no"] and not records and len(words) == (4 if words[1] == "7" else 3):
-                return cls(words[1], int(words[2]), need=int(words[3]) if len(words) == 4 else 0)
+            if words[:1] == ["no"] and not records and len(words) in {"7": (4,), "4": (3, 4)}.get(words[1], (3,)):
+                behind = {{"7": "need", "4": "lacked"}[words[1]]: int(words[3])} if len(words) == 4 else {}
+                return cls(words[1], int(words[2]), **behind)
             if words[:1] == ["ok"] and words[1] in ("whole", "cut"):
                 taken = [record_of(record) for record in records]
                 return cls(words[1], *(int(word) for word in words[2:]), records=taken)

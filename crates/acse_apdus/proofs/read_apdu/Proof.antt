@@ -4,13 +4,13 @@ use Rattle.acse_apdus.proofs.read_apdu.Statement.{statement}
 use Rattle.acse_apdus.proofs.read_apdu.Tie as tie
 
 returns : tie.Need-returns
-returns c = hears-short (c .before .before .before .bits .ensures) (c .if1 .taken)
+returns c = hears-short (c .before .before .before .before .bits .ensures) (c .before .if1 .taken)
 
 returns-2 : tie.Need-returns-2
 returns-2 c = rw (c .heard .ensures, c .before .unread .ensures) (hears-extended (c .before .before .before .before .before .before .before .bits .ensures) (c .before .before .before .before .if1 .left) (c .before .before .if2 .taken))
 
 returns-3 : tie.Need-returns-3
-returns-3 c = hears-no-index (c .before .before .before .before .before .before .before .before .before .bits .ensures) (c .before .before .before .before .before .before .if1 .left) (c .before .before .before .before .if2 .left) (c .before .before .before .bits2 .ensures) (c .if3 .taken)
+returns-3 c = hears-no-index (c .before .before .before .before .before .before .before .before .before .before .bits .ensures) (c .before .before .before .before .before .before .before .if1 .left) (c .before .before .before .before .before .if2 .left) (c .before .before .before .before .bits2 .ensures) (c .before .if3 .taken)
 
 returns-4 : tie.Need-returns-4
 returns-4 c = hears-unlisted (c .before .before .before .before .before .before .before .before .before .before .bits .ensures) (c .before .before .before .before .before .before .before .if1 .left) (c .before .before .before .before .before .if2 .left) (c .before .before .before .before .bits2 .ensures) (c .before .if3 .left) (c .if4 .taken)

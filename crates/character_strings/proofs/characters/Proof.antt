@@ -5,14 +5,14 @@ use Rattle.character_strings.proofs.TextLaws.{passed-all, passed-out, p
 use Rattle.character_strings.proofs.characters.Statement.{statement}
 use Rattle.character_strings.proofs.characters.Tie as tie
 
-sub-room : tie.Need-sub-room
-sub-room c = omega (arith, c .before .ahead .ensures .room (c .if1 .taken))
+sub-left : tie.Need-sub-left
+sub-left c = omega (arith, c .before .ahead .ensures .room (c .if1 .taken))
 
 returns : tie.Need-returns
 returns c = passed-all (c .before .before .ahead .ensures) (c .before .if1 .taken) (c .if2 .taken) refl (omega arith)
 
 returns-2 : tie.Need-returns-2
-returns-2 c = passed-out (c .before .before .ahead .ensures) (c .before .if1 .taken) (c .if2 .left) refl
+returns-2 c = passed-out (c .before .before .before .ahead .ensures) (c .before .before .if1 .taken) (c .before .if2 .left) refl (c .ran-out .ensures)
 
 returns-3 : tie.Need-returns-3
 returns-3 c = passed-stuck (c .before .before .ahead .ensures) (c .before .if1 .left) (c .stop .ensures)
@@ -22,10 +22,12 @@ characters-spec =
     tie.close
     (tie.spec
     (λ c κs. search needs)
-    sub-room
+    sub-left
     (λ c. search needs)
     (λ c. search needs)
     returns
+    (λ c. search needs)
+    (λ c κs. omega arith)
     (λ c. search needs)
     (λ c. search needs)
     returns-2

@@ -13,7 +13,7 @@ use Rattle.cm.proofs.answer.Statement.{statement}
 use Rattle.cm.proofs.answer.Tie as tie
 
 returns : tie.Need-returns
-returns c = record { is = rw (c .refused .ensures) (frame-refused (c .before .before .before .before .before .pdu .ensures .reads) refl (c .before .if1 .taken)) }
+returns c = record { is = rw (c .refused .ensures) (frame-refused (c .before .before .before .before .before .before .before .pdu .ensures .reads) refl (c .before .before .before .if1 .taken)) }
 
 returns-2 : tie.Need-returns-2
 returns-2 c =

@@ -32,7 +32,8 @@ returns-3 : tie.Need-returns-3
 returns-3 c =
     let tried = c .before .before .before .before .before .before .before .before .before .before .before .before .try-frame .ensures in
     let again = c .before .before .before .before .before .before .before .try-frame2 .ensures in
-    record { is = apdu-reads _ _ _ _ (c .before .before .before .before .before .before .before .before .before .before .before .before .before .before .before .before .if1 .left) (tables-hold _ _ (c .before .before .before .before .before .before .before .before .before .before .before .before .before .before .before .tables-fit .ensures) (c .before .before .before .before .before .before .before .before .before .before .before .before .before .before .if2 .left)) (says-out _ _ (tried .is) refl refl (c .before .before .before .before .before .before .before .before .before .if3 .taken) (c .before .before .answer-frame .ensures (again .keeps) _ (c .before .before .before .before .before .after-out .ensures .0 _ (again .is)) (follows-out _ _))) }
+    let ran = c .before .before .before .before .before .before .before .before .before .if3 .taken in
+    record { is = apdu-reads _ _ _ _ (c .before .before .before .before .before .before .before .before .before .before .before .before .before .before .before .before .if1 .left) (tables-hold _ _ (c .before .before .before .before .before .before .before .before .before .before .before .before .before .before .before .tables-fit .ensures) (c .before .before .before .before .before .before .before .before .before .before .before .before .before .before .if2 .left)) (says-out _ _ (tried .is) refl refl ran (c .before .before .answer-frame .ensures (again .keeps) _ (c .before .before .before .before .before .after-out .ensures .0 _ _ (omega (arith, ran)) (again .is)) (follows-out _ _ _))) }
 
 try-frame-requires-3 : tie.Need-try-frame-requires-3
 try-frame-requires-3 c κs =

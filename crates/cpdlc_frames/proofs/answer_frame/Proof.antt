@@ -10,7 +10,7 @@ returns-2 : tie.Need-returns-2
 returns-2 c = λ k. says-cut _ (c .before .before .before .before .if2 .taken) (c .before .before .write-frame2 .ensures k)
 
 returns-3 : tie.Need-returns-3
-returns-3 c = λ _ u h _. says-refused u h (c .before .before .if1 .left) (c .if2 .left)
+returns-3 c = λ _ u h _. says-refused u h (c .before .before .before .before .if1 .left) (c .before .before .if2 .left)
 
 pub answer-frame-spec : {M : Type 1} → statement M
 answer-frame-spec = tie.close (tie.spec (λ c κs. search needs) (λ c. search needs) returns (λ c κs. search needs) (λ c. search needs) returns-2 returns-3)

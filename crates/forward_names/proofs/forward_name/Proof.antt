@@ -21,7 +21,7 @@ returns-3 : tie.Need-returns-3
 returns-3 c = c .no-name3 .ensures ∙ reads _ _ _ (c .before .before .before .before .before .before .before .before .if1 .left) (tables-hold _ _ (c .before .before .before .before .before .before .before .tables-fit .ensures) (c .before .before .before .before .before .before .if2 .left)) (name-cut (c .before .if3 .taken) _ (uplink _ _ _ (c .before .before .before .before .try-frame .ensures .is)))
 
 returns-4 : tie.Need-returns-4
-returns-4 c = c .no-name4 .ensures ∙ reads _ _ _ (c .before .before .before .before .before .before .before .before .before .before .if1 .left) (tables-hold _ _ (c .before .before .before .before .before .before .before .before .before .tables-fit .ensures) (c .before .before .before .before .before .before .before .before .if2 .left)) (name-refused (c .before .before .before .if3 .left) (c .before .if4 .taken) _ (uplink _ _ _ (c .before .before .before .before .before .before .try-frame .ensures .is)))
+returns-4 c = c .no-name4 .ensures ∙ reads _ _ _ (c .before .before .before .before .before .before .before .before .before .before .before .before .if1 .left) (tables-hold _ _ (c .before .before .before .before .before .before .before .before .before .before .before .tables-fit .ensures) (c .before .before .before .before .before .before .before .before .before .before .if2 .left)) (name-refused (c .before .before .before .before .before .if3 .left) (c .before .before .before .if4 .taken) _ (uplink _ _ _ (c .before .before .before .before .before .before .before .before .try-frame .ensures .is)))
 
 returns-5 : tie.Need-returns-5
 returns-5 c = c .no-name5 .ensures ∙ reads _ _ _ (c .before .before .before .before .before .before .before .before .before .before .before .before .if1 .left) (tables-hold _ _ (c .before .before .before .before .before .before .before .before .before .before .before .tables-fit .ensures) (c .before .before .before .before .before .before .before .before .before .before .if2 .left)) (name-marked (c .before .before .before .if4 .left) (c .before .if5 .taken) _ (uplink _ _ _ (c .before .before .before .before .before .before .before .before .try-frame .ensures .is)))

@@ -22,24 +22,24 @@ unfolding laxData or mark
 returns-2 c =
     let low = c .before .if2 .left in
     let high = c .if3 .taken in
-    runs-within 236050 _ (omega arith) (tried-dropped 7 false (c .before .before .before .before .before .read-data .ensures) (c .before .before .before .before .before .before .before .if1 .left) low (omega arith))
+    runs-within 236050 _ (omega arith) (tried-dropped 7 false (c .before .before .before .before .before .before .read-data .ensures) (c .before .before .before .before .before .before .before .before .if1 .left) low (omega arith))
 
 returns-3 : tie.Need-returns-3
 unfolding laxData
-returns-3 c = tried-kept 7 false (c .before .before .before .before .read-data .ensures) (λ l h. omega (arith, c .if2 .taken))
+returns-3 c = tried-kept 7 false (c .before .before .before .before .before .read-data .ensures) (λ l h. omega (arith, c .if2 .taken))
 
 returns-4 : tie.Need-returns-4
 unfolding laxData
-returns-4 c = tried-kept 7 false (c .before .before .before .before .before .read-data .ensures) (λ l h. omega (arith, c .if3 .left))
+returns-4 c = tried-kept 7 false (c .before .before .before .before .before .before .read-data .ensures) (λ l h. omega (arith, c .if3 .left))
 
 same-length : tie.Need-same-length
-same-length c = told-length (c .before .before .before .before .before .read-data .ensures .told)
+same-length c = told-length (c .before .before .before .before .before .before .read-data .ensures .told)
 
 same-length-2 : tie.Need-same-length-2
-same-length-2 c = told-length (c .before .before .before .before .read-data .ensures .told)
+same-length-2 c = told-length (c .before .before .before .before .before .read-data .ensures .told)
 
 same-length-3 : tie.Need-same-length-3
-same-length-3 c = told-length (c .before .before .before .before .before .read-data .ensures .told)
+same-length-3 c = told-length (c .before .before .before .before .before .before .read-data .ensures .told)
 
 pub try-data-spec : {M : Type 1} → statement M
 try-data-spec = tie.close (tie.spec returns read-data-requires same-length returns-2 same-length-2 returns-3 same-length-3 returns-4)

@@ -25,4 +25,4 @@ returns-3 c = ⊎-elim (λ x. string-ends-behind (c .before .before .before .bef
 
 pub find-string-spec : {M : Type 1} → statement M
 find-string-spec =
-    tie.close (tie.spec (λ c κs. search needs) (λ c κs. search needs) returns (λ c κs. search needs) add-holds (λ c κs. search needs) (λ c. search needs) add-t17-2 add-t16 returns-2 (λ c κs. search needs) returns-3)
+    tie.close (tie.spec (λ c κs. search needs) (λ c κs. omega (arith, c .before .length .ensures .few)) returns (λ c κs. search needs) add-holds (λ c κs. search needs) (λ c. search needs) add-t17-2 add-t16 returns-2 (λ c κs. search needs) returns-3)

@@ -34,4 +34,4 @@ returns-5 : tie.Need-returns-5
 returns-5 c = integrity-some (c .before .before .before .before .before .before .before .before .before .before .before .before .length .ensures) (c .before .before .before .before .before .before .before .before .before .before .pass .ensures) (c .before .before .before .before .before .before .before .before .before .before .before .before .before .if1 .left) (c .before .before .before .before .before .before .before .before .if2 .left) (c .before .before .before .before .before .before .if3 .left) (c .before .before .before .before .if4 .left) (c .before .before .emit .ensures)
 
 pub read-integrity-spec : {M : Type 1} → statement M
-read-integrity-spec = tie.close (tie.spec returns length-requires (λ c κs. search needs) returns-2 returns-3 returns-4 emit-requires same-length returns-5)
+read-integrity-spec = tie.close (tie.spec returns length-requires (λ c κs. omega (arith, c .before .length .ensures .few)) returns-2 returns-3 returns-4 emit-requires same-length returns-5)

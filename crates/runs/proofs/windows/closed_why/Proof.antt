@@ -3,7 +3,7 @@ use Rattle.runs.proofs.windows.closed_why.Statement.{statement}
 use Rattle.runs.proofs.windows.closed_why.Tie as tie
 
 returns : tie.Need-returns
-returns c = why-out (c .if1 .taken)
+returns c = why-out _ (c .if1 .taken)
 
 returns-2 : tie.Need-returns-2
 returns-2 c = why-bad (c .if2 .taken)
