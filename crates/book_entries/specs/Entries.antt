@@ -11,11 +11,11 @@ abbrev pub text : Entry → ℕ
 text e = e .high * 4294967296 + e .low
 
 abbrev pub size : Entry → ℕ
-size e = e .shape / 65536
+size e = e .shape / 1048576
 
--- the frame's byte length
+-- the frame's byte length: "The name book's stored length grows from four digits to five"
 abbrev pub bytes : Entry → ℕ
-bytes e = e .shape % 65536
+bytes e = e .shape % 1048576
 
 -- each of four characters is below 128
 unfoldable pub plain : ℕ → Bool

@@ -5,7 +5,7 @@ ghost use Prim.Native.Nat.{_+_, _*_, _^_, _-_, _≤_, _<_};
 ghost use lib.ListN.{length, take, drop};
 ghost use Rattle.book_entries.specs.Entries.{text as Entries·text, plain as Entries·plain, good as Entries·good, words, entryAt};
 
-// high and low are the name's characters, the first one highest and zeros behind the last; number is the frame's; shape is the number of characters, times 65536, and the frame's byte length.
+// high and low are the name's characters, the first one highest and zeros behind the last; number is the frame's; shape is the number of characters, times 2^20 (five digits), and the frame's byte length.
 pub struct Entry {
     pub high: u32,
     pub low: u32,
@@ -49,7 +49,7 @@ pub fn text(e: Entry) -> u64
 pub fn good(e: Entry) -> bool
     ensures { λ r. ⌜ r ≡ Entries·good e ⌝ }
 {
-    let size = e.shape / 65536;
+    let size = e.shape / 1048576;
     if size < 2 {
         return false;
     }

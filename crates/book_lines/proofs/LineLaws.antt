@@ -70,10 +70,10 @@ chained at a b c v d {v₃ = v₃} {k = k} e₁ e₂ f₂ e₃ f₃ e f p =
     let n : k < length v₃ = rw (g, put-length at (a ++ b ++ c) v (omega arith)) p in
     behind-put at (a ++ b ++ c) (d ∷ []) v g (e ∙ set-put v₃ k d n) (omega arith) (omega arith)
 
-pub line-length : (e : Entry) → length (line e) ≡ size e * 2 + 13
+pub line-length : (e : Entry) → length (line e) ≡ size e * 2 + 14
 unfolding line
 line-length e =
     let a = digits (size e * 2) (text e / 256 ^ (8 - size e)) in
     let b = digits 8 (e .number) in
-    let c = digits 4 (bytes e) in
-    length-append (a ++ b ++ c) (10 ∷ []) ∙ omega (arith, length-append (a ++ b) c, length-append a b, digits-length (size e * 2) (text e / 256 ^ (8 - size e)), digits-length 8 (e .number), digits-length 4 (bytes e))
+    let c = digits 5 (bytes e) in
+    length-append (a ++ b ++ c) (10 ∷ []) ∙ omega (arith, length-append (a ++ b) c, length-append a b, digits-length (size e * 2) (text e / 256 ^ (8 - size e)), digits-length 8 (e .number), digits-length 5 (bytes e))

@@ -10,21 +10,21 @@ use book_entries::unit;
 
 // The line of an entry from byte `at` on; the other bytes stay.
 pub fn put_line(out: &mut [u8], at: usize, e: Entry)
-    requires { ⌜ (2 ≤ size e) × (size e ≤ 8) × (at + (size e * 2 + 13) ≤ length (now out)) ⌝ }
+    requires { ⌜ (2 ≤ size e) × (size e ≤ 8) × (at + (size e * 2 + 14) ≤ length (now out)) ⌝ }
     ensures { λ _. ⌜ now (out .exit) ≡ put at (line e) (now (out .entry)) ⌝ }
 {
     let width = name_digits(e);
-    put_digits(out, at, width, text(e) / unit(e.shape / 65536));
+    put_digits(out, at, width, text(e) / unit(e.shape / 1048576));
     put_digits(out, at + width, 8, wide(e.number));
-    put_digits(out, at + width + 8, 4, wide(e.shape % 65536));
-    out[at + width + 12] = b'\n';
+    put_digits(out, at + width + 8, 5, wide(e.shape % 1048576));
+    out[at + width + 13] = b'\n';
 }
 
 // How many digits a name has.
 pub fn name_digits(e: Entry) -> usize
     ensures { λ r. ⌜ r ≡ size e * 2 ⌝ }
 {
-    (e.shape / 65536 * 2) as usize
+    (e.shape / 1048576 * 2) as usize
 }
 
 // The last n digits of x from byte `at` on.

@@ -84,7 +84,7 @@ fn fair_at(book: &[u32], n: usize, i: usize) -> bool
     if !rises(book, n, i) {
         return false;
     }
-    n <= find_name(book, n, i + 1, text(e), e.shape / 65536)
+    n <= find_name(book, n, i + 1, text(e), e.shape / 1048576)
 }
 
 // Whether the entry behind place i, if there is one, has a higher number.
@@ -104,7 +104,7 @@ fn is_named(e: Entry, name: u64, size: u32) -> bool
     if text(e) != name {
         return false;
     }
-    e.shape / 65536 == size
+    e.shape / 1048576 == size
 }
 
 // Whether all words from `first` on are 0.

@@ -26,7 +26,7 @@ module _ (w s : List ℕ) (k : ℕ) (down up : List ℕ) {n : Named} (e : n ≡ 
   by-name z x = record { is = rw (← e, eq-eqb (n .number) 0 z) (x .is) }
 
 -- what the entry of a name asks for
-pub enters : (s down up : List ℕ) {n : Named} → n ≡ forward-name s down up → n .number ≡ 0 → (n .size ≤ 8) × (length s < 65536)
+pub enters : (s down up : List ℕ) {n : Named} → n ≡ forward-name s down up → n .number ≡ 0 → (n .size ≤ 8) × (length s < 1048576)
 enters s down up e z =
     let z′ : forward-name s down up .number ≡ 0 = rw e at z in
     (rw e (small s down up z′), omega (arith, short s down up z′))

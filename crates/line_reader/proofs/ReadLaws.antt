@@ -8,15 +8,17 @@ use native.Mathlib.Nat.{pow-suc, pow-le-pow-right, one-le-pow, mul-lt-mul-of-pos
 use native.Mathlib.Numerals.{add-one}
 use native.Mathlib.Omega.{arith}
 use lib.Pow.{pow-add}
-use lib.Dec.{leb, ltb, eqb, lit≤}
+use lib.Dec.{leb, ltb, lit≤}
 use lib.ListN.{length, take, drop, getD, drop-of-length-le, length-drop}
 use lib.Seq.{drop-cons, length-take-le, take-all}
-use borrow.Author.Tests.{lt-ltb, le-ltb, le-leb, lt-leb, eq-eqb, ne-eqb, not-true, not-false}
+use borrow.Author.Tests.{lt-ltb, le-ltb, le-leb, lt-leb, not-true, not-false}
 use Rattle.book_entries.specs.declared.Entry.{Entry}
 use Rattle.book_entries.specs.Entries.{good}
 use Rattle.line_reader.specs.declared.Numeral.{Numeral}
 use Rattle.line_reader.specs.Reads.{Number}
 use Rattle.book_lines.specs.Lines.{value, onward, entryOf, checked, parts, entry}
+use Rattle.book_lines.proofs.Digits.{grows}
+use Rattle.book_lines.proofs.Parts.{opens}
 
 module _ (t : List ℕ) (i x : ℕ) (p : i < length t) where
   pub turn : {d : ℕ} → d ≡ value (getD t i 0) → d < 16 → onward x (drop i t) ≡ onward (x * 16 + d) (drop (i + 1) t)
@@ -31,14 +33,15 @@ pub all : (t : List ℕ) (i x : ℕ) → length t ≤ i → onward x (drop i t) 
 unfolding onward
 all t i x p = rw (drop-of-length-le t p)
 
--- the number grows by a digit
-pub grows : (i x d : ℕ) → x < 16 ^ i → d < 16 → x * 16 + d < 16 ^ (i + 1)
-grows i x d p q = rw (add-one i, pow-suc 16 i) (omega arith)
-
+-- a number of at most sixteen digits
 pub in-word : (i x d : ℕ) → x < 16 ^ i → d < 16 → i < 16 → x * 16 + d < 2 ^ 64
 in-word i x d p q l =
     let k : i + 1 ≤ 16 = omega arith in
     omega (arith, grows i x d p q, pow-le-pow-right {n = 16} (lit≤ tt) k)
+
+-- at most five digits
+pub in-five : (n x : ℕ) → n ≤ 5 → x < 16 ^ n → x < 1048576
+in-five n x p q = omega (arith, pow-le-pow-right {n = 16} (lit≤ tt) p)
 
 -- a name of s characters, moved up to the first one's place
 pub moved-up : (s x : ℕ) → s ≤ 8 → x < 256 ^ s → x * 256 ^ (8 - s) < 2 ^ 64
@@ -56,28 +59,17 @@ pub checked-good : (e : Entry) → good e ≡ true → checked e ≡ some e
 unfolding checked
 checked-good e g = rw g
 
--- digits two to a character
-pub two-digits : (s : ℕ) → 16 ^ (s * 2) ≡ 256 ^ s
-two-digits zero = refl
-two-digits (suc s) =
-    let e : suc s * 2 ≡ s * 2 + 2 = omega arith in
-    rw (e, pow-add 16 (s * 2) 2, two-digits s, pow-suc 256 s)
-
 -- a line of another length than a line can have
 pub short : (l : List ℕ) → length l < 16 → entry l ≡ none
 unfolding entry
 short l p = rw (lt-leb 16 (length l) p)
 
-pub long : (l : List ℕ) → 16 ≤ length l → 28 < length l → entry l ≡ none
+pub long : (l : List ℕ) → 16 ≤ length l → 29 < length l → entry l ≡ none
 unfolding entry
-long l p q = rw (le-leb 16 (length l) p, lt-leb (length l) 28 q)
+long l p q = rw (le-leb 16 (length l) p, lt-leb (length l) 29 q)
 
-pub odd : (l : List ℕ) → 16 ≤ length l → length l ≤ 28 → (length l % 2 ≡ 0 → ⊥) → entry l ≡ none
-unfolding entry
-odd l p q r = rw (le-leb 16 (length l) p, le-leb (length l) 28 q, ne-eqb (length l % 2) 0 r)
-
--- a name of s characters, eight digits and four
-module _ (l : List ℕ) (p : 16 ≤ length l) (q : length l ≤ 28) (r : length l % 2 ≡ 0) where
+-- a name of s characters, eight digits, and four or five
+module _ (l : List ℕ) (p : 16 ≤ length l) (q : length l ≤ 29) where
   abbrev pub chars : ℕ
   chars = (length l - 12) / 2
 
@@ -87,36 +79,32 @@ module _ (l : List ℕ) (p : 16 ≤ length l) (q : length l ≤ 28) (r : length 
   pub number-length : length (take (chars * 2 + 8 - chars * 2) (drop (chars * 2) l)) ≡ 8
   number-length = length-take-le (chars * 2 + 8 - chars * 2) (drop (chars * 2) l) (omega (arith, length-drop (chars * 2) l)) ∙ omega arith
 
-  pub bytes-length : length (take (length l - (chars * 2 + 8)) (drop (chars * 2 + 8) l)) ≡ 4
-  bytes-length = length-take-le (length l - (chars * 2 + 8)) (drop (chars * 2 + 8) l) (omega (arith, length-drop (chars * 2 + 8) l)) ∙ omega arith
+  pub bytes-length : length (take (length l - (chars * 2 + 8)) (drop (chars * 2 + 8) l)) ≤ 5
+  bytes-length = omega (arith, length-take-le (length l - (chars * 2 + 8)) (drop (chars * 2 + 8) l) (omega (arith, length-drop (chars * 2 + 8) l)))
 
   eight : take (chars * 2 + 8 - chars * 2) (drop (chars * 2) l) ≡ take 8 (drop (chars * 2) l)
   eight = let e : chars * 2 + 8 - chars * 2 ≡ 8 = omega arith in rw e
 
-  four : take (length l - (chars * 2 + 8)) (drop (chars * 2 + 8) l) ≡ drop (chars * 2 + 8) l
-  four = take-all (length l - (chars * 2 + 8)) (drop (chars * 2 + 8) l) (omega (arith, length-drop (chars * 2 + 8) l))
-
-  opens : entry l ≡ parts chars l
-  unfolding entry
-  opens = rw (le-leb 16 (length l) p, le-leb (length l) 28 q, eq-eqb (length l % 2) 0 r)
+  others : take (length l - (chars * 2 + 8)) (drop (chars * 2 + 8) l) ≡ drop (chars * 2 + 8) l
+  others = take-all (length l - (chars * 2 + 8)) (drop (chars * 2 + 8) l) (omega (arith, length-drop (chars * 2 + 8) l))
 
   pub bad-name : onward 0 (take (chars * 2) l) ≡ none → entry l ≡ none
   unfolding parts
-  bad-name e = opens ∙ rw (e, parts)
+  bad-name e = opens l p q ∙ rw (e, parts)
 
   module _ {x : ℕ} (e : onward 0 (take (chars * 2) l) ≡ some x) where
     pub bad-number : onward 0 (take (chars * 2 + 8 - chars * 2) (drop (chars * 2) l)) ≡ none → entry l ≡ none
     unfolding parts
-    bad-number f = opens ∙ rw (e, rw eight at f, parts)
+    bad-number f = opens l p q ∙ rw (e, rw eight at f, parts)
 
     module _ {k : ℕ} (f : onward 0 (take (chars * 2 + 8 - chars * 2) (drop (chars * 2) l)) ≡ some k) where
       pub bad-bytes : onward 0 (take (length l - (chars * 2 + 8)) (drop (chars * 2 + 8) l)) ≡ none → entry l ≡ none
       unfolding parts
-      bad-bytes g = opens ∙ rw (e, rw eight at f, rw four at g, parts)
+      bad-bytes g = opens l p q ∙ rw (e, rw eight at f, rw others at g, parts)
 
       pub whole : {b : ℕ} → onward 0 (take (length l - (chars * 2 + 8)) (drop (chars * 2 + 8) l)) ≡ some b → entry l ≡ checked (entryOf chars x k b)
       unfolding parts
-      whole g = opens ∙ rw (e, rw eight at f, rw four at g, parts)
+      whole g = opens l p q ∙ rw (e, rw eight at f, rw others at g, parts)
 
 -- what a number was read as
 module _ {t : List ℕ} {r : Numeral} (n : Number t r) where

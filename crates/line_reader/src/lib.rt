@@ -27,10 +27,7 @@ pub fn read_line(line: &[u8]) -> Line
     if n < 16 {
         return Line::Bad;
     }
-    if 28 < n {
-        return Line::Bad;
-    }
-    if n % 2 != 0 {
+    if 29 < n {
         return Line::Bad;
     }
     let size = (n - 12) / 2;
@@ -51,7 +48,7 @@ pub fn read_line(line: &[u8]) -> Line
 
 // The entry of a name of so many characters, a frame number and a byte length, if it is good.
 fn checked(size: u32, name: u64, number: u64, bytes: u64) -> Line
-    requires { ⌜ (2 ≤ size) × (size ≤ 8) × (name < 256 ^ size) × (number < 4294967296) × (bytes < 65536) ⌝ }
+    requires { ⌜ (2 ≤ size) × (size ≤ 8) × (name < 256 ^ size) × (number < 4294967296) × (bytes < 1048576) ⌝ }
     ensures { λ r. ⌜ Lines·checked (entryOf size name number bytes) ≡ found r ⌝ }
 {
     let text = name * unit(size);
@@ -59,7 +56,7 @@ fn checked(size: u32, name: u64, number: u64, bytes: u64) -> Line
         high: (text / 4294967296) as u32,
         low: (text % 4294967296) as u32,
         number: number as u32,
-        shape: size * 65536 + bytes as u32,
+        shape: size * 1048576 + bytes as u32,
     };
     if !good(e) {
         return Line::Bad;

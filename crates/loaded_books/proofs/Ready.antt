@@ -49,7 +49,7 @@ entry-good l {e} h =
     let third : ℕ → ℕ → ℕ → Option Entry = λ x k b. checked (entryOf s x k b) in
     let second : ℕ → ℕ → Option Entry = λ x k. elim (onward 0 (drop (s * 2 + 8) l)) [ none ↦ none | some b ↦ third x k b ] in
     let first : ℕ → Option Entry = λ x. elim (onward 0 (take 8 (drop (s * 2) l))) [ none ↦ none | some k ↦ second x k ] in
-    let a = bound first (onward 0 (take (s * 2) l)) (held-in (leb 16 (length l) && (leb (length l) 28 && eqb (length l % 2) 0)) h) in
+    let a = bound first (onward 0 (take (s * 2) l)) (held-in (leb 16 (length l) && leb (length l) 29) h) in
     let b = bound (second (a .0)) (onward 0 (take 8 (drop (s * 2) l))) (a .1) in
     let c = bound (third (a .0) (b .0)) (onward 0 (drop (s * 2 + 8) l)) (b .1) in
     checked-good (entryOf s (a .0) (b .0) (c .0)) (c .1)

@@ -114,7 +114,7 @@ fn do_meet(e: Entry, f: Entry) -> bool
     if text(f) != text(e) {
         return false;
     }
-    f.shape / 65536 == e.shape / 65536
+    f.shape / 1048576 == e.shape / 1048576
 }
 
 // Each line of a good saved book goes into an emptied one.

@@ -46,7 +46,7 @@ pub fn add_entry(book: &mut [u32], e: Entry) -> Added
     if !good(e) {
         return Added::NoName;
     }
-    let p = find_name(book, n, 0, text(e), e.shape / 65536);
+    let p = find_name(book, n, 0, text(e), e.shape / 1048576);
     if p < n {
         let f = entry_at(book, p);
         return Added::Repeated { number: f.number };
@@ -88,6 +88,6 @@ pub fn look_up(book: &[u32], name: u64, size: u32) -> Found
     let e = entry_at(book, p);
     Found::At {
         number: e.number,
-        bytes: e.shape % 65536,
+        bytes: e.shape % 1048576,
     }
 }

@@ -40,12 +40,12 @@ module _ (w : List ℕ) (i : ℕ) (p : i < length (entries w)) (o : orderly (fro
   next-orderly = others (entryAt w i) (from w (i + 1)) split
 
 module _ (w : List ℕ) (i : ℕ) (p : i < length (entries w)) where
-  pub next-length : length (saved (from w i)) ≡ size (entryAt w i) * 2 + 13 + length (saved (from w (i + 1)))
+  pub next-length : length (saved (from w i)) ≡ size (entryAt w i) * 2 + 14 + length (saved (from w (i + 1)))
   unfolding saved
   next-length = rw (next-of w i p) (length-append (line (entryAt w i)) (saved (from w (i + 1))) ∙ omega (arith, line-length (entryAt w i)))
 
   -- v as it was, with the line of e, the entry at place i, put at `at`
-  pub next-line : (at : ℕ) (v : List ℕ) {e : Entry} {y v′ : List ℕ} {j : ℕ} → e ≡ entryAt w i → y ≡ put at (saved (from w i)) v → v′ ≡ put at (line e) v → j ≡ at + (size e * 2 + 13) → at + (size e * 2 + 13) ≤ length v → y ≡ put j (saved (from w (i + 1))) v′
+  pub next-line : (at : ℕ) (v : List ℕ) {e : Entry} {y v′ : List ℕ} {j : ℕ} → e ≡ entryAt w i → y ≡ put at (saved (from w i)) v → v′ ≡ put at (line e) v → j ≡ at + (size e * 2 + 14) → at + (size e * 2 + 14) ≤ length v → y ≡ put j (saved (from w (i + 1))) v′
   unfolding saved
   next-line at v {e = e} {j = j} is h g k q =
       let n : from w i ≡ e ∷ from w (i + 1) = next-of w i p ∙ ap (λ (f : Entry). f ∷ from w (i + 1)) (sym is) in

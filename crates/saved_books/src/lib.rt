@@ -48,7 +48,7 @@ fn bytes_needed(book: &[u32], n: usize) -> usize
     let mut need = 0;
     let mut i = 0;
     while i < n {
-        need = need + name_digits(entry_at(book, i)) + 13;
+        need = need + name_digits(entry_at(book, i)) + 14;
         i += 1;
     }
     need
@@ -64,7 +64,7 @@ fn put_lines(book: &[u32], n: usize, out: &mut [u8])
     while i < n {
         let e = entry_at(book, i);
         put_line(out, at, e);
-        at = at + name_digits(e) + 13;
+        at = at + name_digits(e) + 14;
         i += 1;
     }
 }

@@ -37,7 +37,7 @@ module _ (c : Call) (w : List ℕ) {r : Offered} where
       booked l i a = record { is = rw (a, e, h, eq-eqb (nameOf c .number) 0 (rw e at z), le-leb (nameOf c .reach) (c .arrived) (rw e at l), ← i .is) }
 
 -- what the entry of a name asks for
-pub enters : (c : Call) {n : Named} → n ≡ nameOf c → n .number ≡ 0 → (n .size ≤ 8) × (length (c .capture) < 65536)
+pub enters : (c : Call) {n : Named} → n ≡ nameOf c → n .number ≡ 0 → (n .size ≤ 8) × (length (c .capture) < 1048576)
 enters c e z =
     let z′ : nameOf c .number ≡ 0 = rw e at z in
     (rw e (small (c .capture) (c .down) (c .up) z′), omega (arith, short (c .capture) (c .down) (c .up) z′))

@@ -26,10 +26,10 @@ returns c =
     let t = c .before .before in
     let name = digits (size (a .e) * 2) (text (a .e) / 256 ^ (8 - size (a .e))) in
     let number = digits 8 (a .e .number) in
-    let last = digits 4 (bytes (a .e)) in
+    let last = digits 5 (bytes (a .e)) in
     let p = digits-length (size (a .e) * 2) (text (a .e) / 256 ^ (8 - size (a .e))) in
     let q = digits-length 8 (a .e .number) in
-    let r = digits-length 4 (bytes (a .e)) in
+    let r = digits-length 5 (bytes (a .e)) in
     chained (a .at) name number last (a .out .now) 10
     (rw (d .ensures, f .before .before .before .text .ensures, f .before .unit .ensures) at (f .put-digits .ensures))
     (rw (s .before .wide .ensures) at (s .put-digits2 .ensures))

@@ -17,7 +17,7 @@ fits c = rw (c .unit .ensures) (moved-up (c .before .args .size) (c .before .arg
 
 -- the entry, with the number that the name was multiplied by
 abbrev made : (s x u k b : ℕ) → Entry
-made s x u k b = record { high = x * u / 4294967296; low = x * u % 4294967296; number = k; shape = s * 65536 + b }
+made s x u k b = record { high = x * u / 4294967296; low = x * u % 4294967296; number = k; shape = s * 1048576 + b }
 
 returns : tie.Need-returns
 returns c =

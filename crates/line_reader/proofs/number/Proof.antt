@@ -7,7 +7,8 @@ use lib.Dec.{lit≤}
 use lib.ListN.{length, drop}
 use borrow.Author.Needs.{needs}
 use Rattle.book_lines.specs.Lines.{onward}
-use Rattle.line_reader.proofs.ReadLaws.{turn, no-digit, all, grows, in-word}
+use Rattle.book_lines.proofs.Digits.{grows}
+use Rattle.line_reader.proofs.ReadLaws.{turn, no-digit, all, in-word}
 use Rattle.line_reader.proofs.number.Statement.{statement}
 use Rattle.line_reader.proofs.number.Tie as tie
 

@@ -15,7 +15,7 @@ use Rattle.saved_books.proofs.bytes_needed.Statement.{statement}
 use Rattle.saved_books.proofs.bytes_needed.Tie as tie
 
 abbrev Inv-loop : tie.InvT-loop
-Inv-loop book n need₀ i₀ need i = (i ≤ n) × (n * 4 ≤ length book) × (need ≤ i * 29) × (orderly (from book i) ≡ true) × (length (saved (entries book)) ≡ need + length (saved (from book i)))
+Inv-loop book n need₀ i₀ need i = (i ≤ n) × (n * 4 ≤ length book) × (need ≤ i * 30) × (orderly (from book i) ≡ true) × (length (saved (entries book)) ≡ need + length (saved (from book i)))
 
 abbrev μ-loop : tie.MeasureT-loop
 μ-loop book n need₀ i₀ need i = n - i

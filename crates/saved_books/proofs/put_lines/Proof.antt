@@ -32,13 +32,13 @@ module _ (c : tie.After-entry-at Inv-loop μ-loop) where
   sizes : (2 ≤ size (c .entry-at .result)) × (size (c .entry-at .result) ≤ 8)
   sizes = let n = next-size (c .before .before .before .before .before .args .book .now) (c .before .before .loop .i) (omega arith) (c .before .before .loop .inv .4) in rw same n
 
-  needs-room : c .before .before .loop .at + (size (c .entry-at .result) * 2 + 13) + length (saved (from (c .before .before .before .before .before .args .book .now) (c .before .before .loop .i + 1))) ≤ length (c .before .before .loop .out)
+  needs-room : c .before .before .loop .at + (size (c .entry-at .result) * 2 + 14) + length (saved (from (c .before .before .before .before .before .args .book .now) (c .before .before .loop .i + 1))) ≤ length (c .before .before .loop .out)
   needs-room = omega (arith, same, next-length (c .before .before .before .before .before .args .book .now) (c .before .before .loop .i) (omega arith), c .before .before .loop .inv .3)
 
 put-line-requires : tie.Need-put-line-requires Inv-loop μ-loop
 put-line-requires c κs = (sizes (c .before) .0, sizes (c .before) .1, omega (arith, needs-room (c .before)))
 
-adds : (c : tie.After-name-digits Inv-loop μ-loop) → c .before .before .before .before .before .before .before .loop .at + c .name-digits .result + 13 ≤ length (c .before .before .before .before .before .before .before .loop .out)
+adds : (c : tie.After-name-digits Inv-loop μ-loop) → c .before .before .before .before .before .before .before .loop .at + c .name-digits .result + 14 ≤ length (c .before .before .before .before .before .before .before .loop .out)
 adds c = omega (arith, needs-room (c .before .before .before .before .before), c .name-digits .ensures)
 
 loop-again : tie.Need-loop-again Inv-loop μ-loop
