@@ -1,3 +1,3 @@
 pub mod ChangeLaws
 pub mod Orderly
-pub mod ShownLaws
+pub mod LaidLaws

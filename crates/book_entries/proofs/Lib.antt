@@ -1,3 +1,3 @@
 pub mod Places
 pub mod Tests
-pub mod Held
+pub mod Listed

@@ -1,8 +1,8 @@
--- What a slice of words holds: entries by rising frame number, each name once, and zeros behind them.
+-- What the places of a book hold: entries by rising frame number, each name once, and zeros behind them. The number of free places, which stands in front of them, is in crates/counted_books.
 use mathlib.Core.Bool.{Bool, true, false, cond, not, _&&_, _||_}
 use mathlib.Core.List.{List, [], _∷_, _++_}
 use mathlib.Core.Option.{Option, none, some}
-use Prim.Native.Nat.{ℕ, suc, _*_, _/_, _-_}
+use Prim.Native.Nat.{ℕ, suc, _*_, _-_}
 use lib.Dec.{ltb, eqb}
 use lib.ListN.{length, drop, replicate}
 use Rattle.book_entries.specs.declared.Entry.{Entry}
@@ -44,10 +44,10 @@ unfoldable pub picture : List Entry → List ℕ
 picture [] = []
 picture (e ∷ E) = e .high ∷ e .low ∷ e .number ∷ e .shape ∷ picture E
 
--- n words that hold the entries
-unfoldable pub shown : ℕ → List Entry → List ℕ
+-- n words of places that hold the entries
+unfoldable pub laid : ℕ → List Entry → List ℕ
 unfolding picture
-shown n E = picture E ++ replicate (n - length E * 4) 0
+laid n E = picture E ++ replicate (n - length E * 4) 0
 
 -- the places up to the first whose last word is 0
 unfoldable pub entries : List ℕ → List Entry
@@ -61,11 +61,7 @@ unfoldable pub clear : List ℕ → Bool
 clear [] = true
 clear (a ∷ w) = eqb a 0 && clear w
 
--- "18, a slice these calls cannot leave": none
-unfoldable pub held : List ℕ → Option (List Entry)
+-- the entries of places that the calls can leave
+unfoldable pub listed : List ℕ → Option (List Entry)
 unfolding entries orderly clear
-held w = cond (orderly (entries w) && clear (drop (length (entries w) * 4) w)) (some (entries w)) none
-
--- how many names there is room for
-abbrev pub room : List ℕ → ℕ
-room w = length w / 4
+listed w = cond (orderly (entries w) && clear (drop (length (entries w) * 4) w)) (some (entries w)) none

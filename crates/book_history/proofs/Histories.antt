@@ -1,29 +1,30 @@
--- After any sequence of calls from an emptied slice the book holds exactly what the history says, each name and each number once; look-ups find exactly those.
+-- After any sequence of calls from an emptied slice the book holds exactly what the history says, and keeps the number of its free places.
 use mathlib.Core.Path.{_≡_, refl, sym, ap, _∙_}
-use mathlib.Core.Bool.{Bool, true, false, cond, not, _&&_, _||_}
 use mathlib.Core.List.{List, [], _∷_}
-use mathlib.Core.Option.{none, some}
-use Prim.Native.Nat.{ℕ, suc, _*_, _/_, _-_, _≤_, _<_}
+use Prim.Native.Nat.{ℕ, _/_, _-_, _≤_}
 use native.Mathlib.Omega.{arith}
-use lib.ListN.{length, replicate, length-replicate}
+use lib.ListN.{length}
 use Rattle.book_entries.specs.declared.Entry.{Entry}
-use Rattle.book_entries.specs.Book.{holds, numbered, orderly, shown, picture, held}
-use Rattle.book_entries.proofs.Held.{held-shown}
+use Rattle.counted_books.specs.declared.Free.the-variants.{Places}
+use Rattle.counted_books.specs.Counted.{emptied, free}
+use Rattle.counted_books.proofs.Held.{holding}
 use Rattle.book_history.specs.History.{Call, run, history}
-use Rattle.book_history.proofs.Kept.{Fits, Keeps, kept}
+use Rattle.book_history.proofs.Kept.{Keeps, keeps-shown, no-entries, emptied-shown, kept}
 
-kept-all : {n : ℕ} {w : List ℕ} {E : List Entry} → Keeps n w E → (cs : List Call) → Keeps n (run w cs) (history (n / 4) E cs)
+pub kept-all : {n : ℕ} {w : List ℕ} {E : List Entry} → Keeps n w E → (cs : List Call) → Keeps n (run w cs) (history ((n - 2) / 4) E cs)
 unfolding run history
 kept-all k [] = k
 kept-all k (c ∷ cs) = kept-all (kept k c) cs
 
--- an emptied slice of n words
-emptied : (n : ℕ) → Keeps n (replicate n 0) []
-unfolding shown picture orderly
-emptied n =
-    let e : n - 0 * 4 ≡ n = omega arith in
-    record { long = length-replicate n 0; holds = rw e at (held-shown n [] refl (omega arith)); fits = record { orderly = refl; few = omega arith } }
+-- a slice with room for the number, emptied
+module _ (n : ℕ) (long : 2 ≤ n) (cs : List Call) where
+  -- "After any sequence of calls, each name held appears once, as the history says"
+  pub after-any : Keeps n (run (emptied n) cs) (history ((n - 2) / 4) [] cs)
+  after-any = kept-all (keeps-shown n (emptied n) [] long (no-entries ((n - 2) / 4)) (emptied-shown n long)) cs
 
--- "After any sequence of calls, each name held appears once, as the history says"
-pub after-any : (n : ℕ) (cs : List Call) → Keeps n (run (replicate n 0) cs) (history (n / 4) [] cs)
-after-any n cs = kept-all (emptied n) cs
+  -- "Keep the number in the book itself, correct after every add, withdrawal, load and refusal": the places less the names held
+  pub number-kept : free (run (emptied n) cs) ≡ Places ((n - 2) / 4 - length (history ((n - 2) / 4) [] cs))
+  number-kept =
+      let k = after-any in
+      let i = holding (run (emptied n) cs) (k .holds) in
+      rw (k .long) at (i .free)

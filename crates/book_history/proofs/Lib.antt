@@ -1,3 +1,4 @@
 pub mod Kept
 pub mod Histories
 pub mod Once
+pub mod Refused

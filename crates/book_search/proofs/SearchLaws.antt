@@ -13,7 +13,7 @@ use lib.Seq.{drop-cons}
 use borrow.Author.Tests.{ne-eqb, lt-ltb, le-ltb, le-leb, lt-leb}
 use Rattle.book_entries.specs.declared.Entry.{Entry}
 use Rattle.book_entries.specs.Entries.{text, size, good, entryAt}
-use Rattle.book_entries.specs.Book.{place, named, before, fair, orderly, entries, clear, held}
+use Rattle.book_entries.specs.Book.{place, named, before, fair, orderly, entries, clear, listed}
 use Rattle.book_entries.proofs.Places.{from, next-of, last}
 use Rattle.book_entries.proofs.Tests.{holds-place}
 
@@ -93,10 +93,10 @@ module _ (w : List ℕ) (i : ℕ) where
   clear-end p = rw (drop-of-length-le w p)
 
 module _ (w : List ℕ) where
-  pub unsound : orderly (entries w) ≡ false → held w ≡ none
-  unfolding held
+  pub unsound : orderly (entries w) ≡ false → listed w ≡ none
+  unfolding listed
   unsound e = rw e
 
-  pub judged : {r : Bool} → orderly (entries w) ≡ true → r ≡ clear (drop (length (entries w) * 4) w) → held w ≡ cond r (some (entries w)) none
-  unfolding held
+  pub judged : {r : Bool} → orderly (entries w) ≡ true → r ≡ clear (drop (length (entries w) * 4) w) → listed w ≡ cond r (some (entries w)) none
+  unfolding listed
   judged e f = rw (e, f)

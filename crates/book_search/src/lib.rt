@@ -6,7 +6,7 @@ ghost use mathlib.Core.Option.{none, some};
 ghost use Prim.Native.Nat.{_+_, _*_, _≤_, _<_};
 ghost use lib.ListN.{length, drop};
 ghost use Rattle.book_entries.specs.Entries.{entryAt};
-ghost use Rattle.book_entries.specs.Book.{place, named, numbered, before, fair, entries, clear, held};
+ghost use Rattle.book_entries.specs.Book.{place, named, numbered, before, fair, entries, clear, listed};
 use book_entries::Entry;
 use book_entries::entry_at;
 use book_entries::good;
@@ -59,7 +59,7 @@ pub fn find_number(book: &[u32], n: usize, number: u32) -> usize
 
 // Whether the calls can have left these words.
 pub fn sound(book: &[u32]) -> bool
-    ensures { λ r. ⌜ held (now (book .entry)) ≡ cond r (some (entries (now (book .entry)))) none ⌝ }
+    ensures { λ r. ⌜ listed (now (book .entry)) ≡ cond r (some (entries (now (book .entry)))) none ⌝ }
 {
     let n = count(book);
     let mut i = 0;

@@ -3,21 +3,21 @@ use mathlib.Core.Path.{_≡_, refl, sym, ap, _∙_}
 use mathlib.Core.Bool.{Bool, true, false, cond, not, _&&_, _||_}
 use mathlib.Core.List.{List, [], _∷_, _++_, append-nil, append-assoc}
 use mathlib.Core.Option.{Option, none, some}
-use Prim.Native.Nat.{ℕ, suc, _+_, _≤_, _<_}
+use Prim.Native.Nat.{ℕ, suc, _+_, _/_, _≤_, _<_}
 use native.Mathlib.Omega.{arith}
 use lib.Dec.{leb, eqb}
 use lib.ListN.{length, drop, drop-of-length-le, length-append}
 use borrow.Author.Tests.{le-leb, lt-leb}
 use Rattle.book_entries.specs.declared.Entry.{Entry}
-use Rattle.book_entries.specs.Book.{holds, shown, entries, held, room}
+use Rattle.book_entries.specs.Book.{holds, laid, entries, listed}
 use Rattle.book_lines.specs.Lines.{entry, also, lines}
 use Rattle.book_text.specs.declared.Piece.{Piece}
 use Rattle.book_text.specs.Cuts.{Cut}
-use Rattle.name_book.specs.Calls.{Leaves}
-use Rattle.name_book.proofs.CallLaws.{opened-none, opened-some, opened-same}
+use Rattle.name_book.specs.Calls.{Leaves, changed}
+use Rattle.name_book.proofs.CallLaws.{changed-to, changed-not}
 use Rattle.loaded_books.specs.declared.Loaded.{Loaded}
 use Rattle.loaded_books.specs.declared.Loaded.the-variants.{Done, Refused}
-use Rattle.loaded_books.specs.Loads.{meets, distinct, gathered, replaced, load}
+use Rattle.loaded_books.specs.Loads.{meets, distinct, gathered, replaced}
 
 pub some-is : {A : Type 0} {x y : A} → some x ≡ some y → x ≡ y
 some-is e = cc
@@ -123,29 +123,24 @@ module _ (f : Entry) (N : List Entry) where
   unfolding distinct
   once h g = rw (← h, g)
 
-pub load-unsound : (w t : List ℕ) → held w ≡ none → Leaves (Refused 18) w (load w t)
-unfolding load
-load-unsound w t h = opened-none (Refused 18) w (replaced (room w) (lines [] t)) h
+module _ (w t : List ℕ) (h : listed w ≡ some (entries w)) where
+  same-book : {a : Loaded} → replaced (length w / 4) (lines [] t) (entries w) ≡ (a, entries w) → Leaves a w (changed w (λ n. replaced n (lines [] t)))
+  same-book o = changed-not w (λ n. replaced n (lines [] t)) h o
 
-module _ (w t : List ℕ) (h : held w ≡ some (entries w)) where
-  same-book : {a : Loaded} → replaced (room w) (lines [] t) (entries w) ≡ (a, entries w) → Leaves a w (load w t)
-  unfolding load
-  same-book o = opened-same (Refused 18) w (replaced (room w) (lines [] t)) h o
-
-  pub load-bad : lines [] t ≡ none → Leaves (Refused 23) w (load w t)
+  pub load-bad : lines [] t ≡ none → Leaves (Refused 23) w (changed w (λ n. replaced n (lines [] t)))
   unfolding replaced
   load-bad n = same-book (rw n)
 
   module _ {L : List Entry} (l : lines [] t ≡ some L) where
-    pub load-twice : distinct L ≡ false → Leaves (Refused 23) w (load w t)
+    pub load-twice : distinct L ≡ false → Leaves (Refused 23) w (changed w (λ n. replaced n (lines [] t)))
     unfolding replaced
     load-twice d = same-book (rw (l, d))
 
     module _ (d : distinct L ≡ true) where
-      pub load-full : room w < length L → Leaves (Refused 10) w (load w t)
+      pub load-full : length w / 4 < length L → Leaves (Refused 10) w (changed w (λ n. replaced n (lines [] t)))
       unfolding replaced
-      load-full r = same-book (rw (l, d, lt-leb (length L) (room w) r))
+      load-full r = same-book (rw (l, d, lt-leb (length L) (length w / 4) r))
 
-      pub load-done : {n : ℕ} {v : List ℕ} → n ≡ length L → length L ≤ room w → v ≡ shown (length w) (gathered [] L) → Leaves (Done n) v (load w t)
-      unfolding load replaced
-      load-done e r x = rw e (opened-some (Refused 18) w (replaced (room w) (lines [] t)) h (rw (l, d, le-leb (length L) (room w) r)) x)
+      pub load-done : {n : ℕ} {v : List ℕ} → n ≡ length L → length L ≤ length w / 4 → v ≡ laid (length w) (gathered [] L) → Leaves (Done n) v (changed w (λ n. replaced n (lines [] t)))
+      unfolding replaced
+      load-done e r x = rw e (changed-to w (λ n. replaced n (lines [] t)) (rw (l, d, le-leb (length L) (length w / 4) r)) x)

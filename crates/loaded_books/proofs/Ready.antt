@@ -10,12 +10,12 @@ use lib.ListN.{length, take, drop, replicate}
 use borrow.Author.Tests.{not-true, not-false}
 use Rattle.book_entries.specs.declared.Entry.{Entry}
 use Rattle.book_entries.specs.Entries.{text, size, good}
-use Rattle.book_entries.specs.Book.{holds, numbered, orderly, picture, shown, entries, held, room}
+use Rattle.book_entries.specs.Book.{holds, numbered, orderly, picture, laid, entries, listed}
 use Rattle.book_entries.proofs.Tests.{both, neither}
-use Rattle.book_entries.proofs.Held.{holding, held-shown, shown-length}
+use Rattle.book_entries.proofs.Listed.{listing, listed-laid, laid-length}
 use Rattle.book_changes.specs.Changes.{insert}
 use Rattle.book_changes.proofs.Orderly.{alike, eqb-comm, alike-comm, holds-insert, insert-orderly, insert-length}
-use Rattle.book_changes.proofs.ShownLaws.{shown-insert}
+use Rattle.book_changes.proofs.LaidLaws.{laid-insert}
 use Rattle.book_lines.specs.Lines.{onward, entryOf, checked, parts, entry, also, lines}
 use Rattle.book_text.specs.declared.Piece.{Piece}
 use Rattle.book_text.specs.Cuts.{Cut}
@@ -121,25 +121,25 @@ pub record Putting (t w v : List ℕ) (n s : ℕ) : Type 0 where
   pub there : List Entry
   pub left : List Entry
   pub is : lines [] t ≡ some all
-  pub shows : v ≡ shown (length w) there
+  pub shows : v ≡ laid (length w) there
   pub count : n ≡ length there
   pub rest : lines [] (drop s t) ≡ some left
   pub same : gathered [] all ≡ gathered there left
   pub ready : Ready there left
-  pub few : length there + length left ≤ room w
+  pub few : length there + length left ≤ length w / 4
 
 module _ {t w v : List ℕ} {n s : ℕ} (p : Putting t w v n s) where
-  pub holds-there : held v ≡ some (p .there)
-  holds-there = rw (p .shows) (held-shown (length w) (p .there) (p .ready .orderly) (omega (arith, p .few)))
+  pub lists-there : listed v ≡ some (p .there)
+  lists-there = rw (p .shows) (listed-laid (length w) (p .there) (p .ready .orderly) (omega (arith, p .few)))
 
   pub as-long : length v ≡ length w
-  as-long = ap length (p .shows) ∙ shown-length (length w) (p .there) (omega (arith, p .few))
+  as-long = ap length (p .shows) ∙ laid-length (length w) (p .there) (omega (arith, p .few))
 
   pub counted : n ≡ length (entries v)
-  counted = p .count ∙ sym (ap length (holding holds-there .is))
+  counted = p .count ∙ sym (ap length (listing lists-there .is))
 
   module _ {r : Piece} (c : Cut t s r) where
-    pub place-left : length (p .there) + 1 ≤ room w
+    pub place-left : length (p .there) + 1 ≤ length w / 4
     place-left = let q = split c (p .rest) in omega (arith, p .few, ap length (q .is))
 
     pub put-next : {v′ : List ℕ} → v′ ≡ picture (insert (r .entry) (entries v)) ++ drop ((n + 1) * 4) v → Putting t w v′ (n + 1) (r .next)
@@ -153,7 +153,7 @@ module _ {t w v : List ℕ} {n s : ℕ} (p : Putting t w v n s) where
           there = insert e (p .there);
           left = q .others;
           is = p .is;
-          shows = rw (← as-long) (shown-insert (holding holds-there) e y);
+          shows = rw (← as-long) (laid-insert (listing lists-there) e y);
           count = omega (arith, p .count, insert-length e (p .there));
           rest = q .rest;
           same = p .same ∙ ap (λ (N : List Entry). gathered (p .there) N) (q .is);
@@ -163,7 +163,7 @@ module _ {t w v : List ℕ} {n s : ℕ} (p : Putting t w v n s) where
 
 -- an emptied book, and a saved one that fits
 pub put-first : {t w : List ℕ} → w ≡ replicate (length w) 0 → Fit t w → Putting t w w 0 0
-unfolding shown picture
+unfolding laid picture
 put-first {t} {w} z f =
     let e : length w - 0 * 4 ≡ length w = omega arith in
     record {
@@ -180,8 +180,8 @@ put-first {t} {w} z f =
     }
 
 -- all are there
-pub put-last : {t w v : List ℕ} {n s : ℕ} {L : List Entry} → Putting t w v n s → length t ≤ s → lines [] t ≡ some L → v ≡ shown (length w) (gathered [] L)
+pub put-last : {t w v : List ℕ} {n s : ℕ} {L : List Entry} → Putting t w v n s → length t ≤ s → lines [] t ≡ some L → v ≡ laid (length w) (gathered [] L)
 unfolding gathered
 put-last {t} {w} {s = s} p q h =
     let e = some-is (sym h ∙ p .is) in
-    p .shows ∙ ap (λ (E : List Entry). shown (length w) E) (sym (rw (at-end t s q (p .rest)) at (p .same)) ∙ ap (λ (E : List Entry). gathered [] E) (sym e))
+    p .shows ∙ ap (λ (E : List Entry). laid (length w) E) (sym (rw (at-end t s q (p .rest)) at (p .same)) ∙ ap (λ (E : List Entry). gathered [] E) (sym e))

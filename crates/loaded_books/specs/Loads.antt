@@ -3,14 +3,15 @@ use mathlib.Core.Path.{_≡_}
 use mathlib.Core.Bool.{Bool, true, cond, not, _&&_, _||_}
 use mathlib.Core.List.{List, [], _∷_}
 use mathlib.Core.Option.{Option, none, some}
-use Prim.Native.Nat.{ℕ, _≤_}
+use Prim.Native.Nat.{ℕ, _/_, _≤_}
 use lib.Dec.{leb}
 use lib.ListN.{length}
 use Rattle.book_entries.specs.declared.Entry.{Entry}
 use Rattle.book_entries.specs.Entries.{text, size}
-use Rattle.book_entries.specs.Book.{holds, named, numbered, room}
+use Rattle.book_entries.specs.Book.{holds, named, numbered}
 use Rattle.book_changes.specs.Changes.{insert}
 use Rattle.book_lines.specs.Lines.{lines}
+use Rattle.counted_books.specs.Counted.{room}
 use Rattle.name_book.specs.Calls.{opened}
 use Rattle.loaded_books.specs.declared.Counted.{Counted}
 use Rattle.loaded_books.specs.declared.Loaded.{Loaded}
@@ -43,9 +44,9 @@ pub record Counts (t : List ℕ) (r : Counted) : Type 0 where
   pub is : lines [] t ≡ cond (r .good) (some entries) none
   pub count : r .count ≡ length entries
 
--- a good saved book, and room for it
+-- a good saved book, and places for it
 pub record Fit (t w : List ℕ) : Type 0 where
   pub entries : List Entry
   pub is : lines [] t ≡ some entries
   pub apart : distinct entries ≡ true
-  pub few : length entries ≤ room w
+  pub few : length entries ≤ length w / 4

@@ -6,16 +6,17 @@ ghost use mathlib.Core.Option.{some};
 ghost use Prim.Native.Nat.{_≤_};
 ghost use lib.ListN.{length, drop, replicate};
 ghost use Rattle.book_entries.specs.declared.Entry.{Entry as Specs·Entry};
-ghost use Rattle.book_entries.specs.Book.{holds, shown};
+ghost use Rattle.book_entries.specs.Book.{holds, laid, entries, listed};
 ghost use Rattle.book_lines.specs.Lines.{lines};
-ghost use Rattle.name_book.specs.Calls.{Leaves};
-ghost use Rattle.loaded_books.specs.Loads.{meets, distinct, gathered, load as Loads·load, Counts, Fit};
+ghost use Rattle.name_book.specs.Calls.{Leaves, changed};
+ghost use Rattle.loaded_books.specs.Loads.{meets, distinct, gathered, replaced, load as Loads·load, Counts, Fit};
 use book_changes::empty;
 use book_changes::insert;
 use book_entries::Entry;
 use book_entries::text;
-use book_search::sound;
 use book_text::line_at;
+use counted_books::recount;
+use counted_books::sound_book;
 
 // Done: how many names are held now.
 pub enum Loaded {
@@ -32,9 +33,19 @@ pub struct Counted {
 pub fn load(book: &mut [u32], saved: &[u8]) -> Loaded
     ensures { λ r. ⌜ Leaves r (now (book .exit)) (Loads·load (now (book .entry)) (now (saved .entry))) ⌝ }
 {
-    if !sound(book) {
+    if !sound_book(book) {
         return Loaded::Refused { number: 18 };
     }
+    let loaded = load_at(&mut book[2..], saved);
+    recount(book);
+    loaded
+}
+
+// A saved book loaded into the places of a sound one.
+fn load_at(places: &mut [u32], saved: &[u8]) -> Loaded
+    requires { ⌜ listed (now places) ≡ some (entries (now places)) ⌝ }
+    ensures { λ r. ⌜ Leaves r (now (places .exit)) (changed (now (places .entry)) (λ n. replaced n (lines [] (now (saved .entry))))) ⌝ }
+{
     let lines = count_lines(saved);
     if !lines.good {
         return Loaded::Refused { number: 23 };
@@ -43,11 +54,11 @@ pub fn load(book: &mut [u32], saved: &[u8]) -> Loaded
         return Loaded::Refused { number: 23 };
     }
     let names = lines.count;
-    if book.len() / 4 < names {
+    if places.len() / 4 < names {
         return Loaded::Refused { number: 10 };
     }
-    empty(book);
-    put_all(book, saved);
+    empty(places);
+    put_all(places, saved);
     Loaded::Done { names: names }
 }
 
@@ -117,16 +128,16 @@ fn do_meet(e: Entry, f: Entry) -> bool
     f.shape / 1048576 == e.shape / 1048576
 }
 
-// Each line of a good saved book goes into an emptied one.
-fn put_all(book: &mut [u32], saved: &[u8])
-    requires { ⌜ (now book ≡ replicate (length (now book)) 0) × Fit (now saved) (now book) ⌝ }
-    ensures { λ _. ⌜ ((L : List Specs·Entry) → lines [] (now (saved .entry)) ≡ some L → now (book .exit) ≡ shown (length (now (book .entry))) (gathered [] L)) ⌝ }
+// Each line of a good saved book goes into emptied places.
+fn put_all(places: &mut [u32], saved: &[u8])
+    requires { ⌜ (now places ≡ replicate (length (now places)) 0) × Fit (now saved) (now places) ⌝ }
+    ensures { λ _. ⌜ ((L : List Specs·Entry) → lines [] (now (saved .entry)) ≡ some L → now (places .exit) ≡ laid (length (now (places .entry))) (gathered [] L)) ⌝ }
 {
     let mut n = 0;
     let mut start = 0;
     while start < saved.len() {
         let line = line_at(saved, start);
-        insert(book, n, line.entry);
+        insert(places, n, line.entry);
         n += 1;
         start = line.next;
     }

@@ -3,12 +3,13 @@ use mathlib.Core.Path.{_≡_}
 use mathlib.Core.Bool.{Bool, cond, not}
 use mathlib.Core.List.{List}
 use mathlib.Core.Option.{none, some}
-use Prim.Native.Nat.{ℕ}
+use Prim.Native.Nat.{ℕ, _/_}
 use lib.Dec.{ltb}
 use lib.ListN.{length, getD}
 use Rattle.book_entries.specs.declared.Entry.{Entry}
 use Rattle.book_entries.specs.Entries.{text, size, bytes, good}
-use Rattle.book_entries.specs.Book.{place, holds, named, numbered, shown, held, room}
+use Rattle.book_entries.specs.Book.{place, holds, named, numbered, laid, entries}
+use Rattle.counted_books.specs.Counted.{shown, held, room}
 use Rattle.book_changes.specs.Changes.{insert, without, vacant}
 use Rattle.name_book.specs.declared.Added.{Added}
 use Rattle.name_book.specs.declared.Added.the-variants.{New, Repeated, NoName, Refused}
@@ -20,6 +21,10 @@ use Rattle.name_book.specs.declared.Found as found
 -- "18, a slice these calls cannot leave, first": else a call goes by the entries held, and leaves the picture of what it makes of them
 unfoldable pub opened : {A : Type 0} → List ℕ → A → (List Entry → A × List Entry) → A × List ℕ
 opened w refusal call = elim (held w) [ none ↦ (refusal, w) | some E ↦ (call E .0, shown (length w) (call E .1)) ]
+
+-- the same of the places alone, of which a call is told how many there are
+unfoldable pub changed : {A : Type 0} → List ℕ → (ℕ → List Entry → A × List Entry) → A × List ℕ
+changed w call = (call (length w / 4) (entries w) .0, laid (length w) (call (length w / 4) (entries w) .1))
 
 -- the first entry that fits
 abbrev pub first : (Entry → Bool) → List Entry → Entry

@@ -11,14 +11,18 @@ use lib.ListN.{length, take, drop, length-append, take-append-drop}
 use borrow.Author.Tests.{leb-true, le-leb, lt-leb}
 use Rattle.book_entries.specs.declared.Entry.{Entry}
 use Rattle.book_entries.specs.Entries.{text, size, good, plain, entryAt}
-use Rattle.book_entries.specs.Book.{orderly, entries, held}
+use Rattle.book_entries.specs.Book.{orderly, entries}
 use Rattle.book_entries.proofs.Places.{from, next-of, last}
 use Rattle.book_entries.proofs.Tests.{both}
-use Rattle.book_entries.proofs.Held.{holding}
 use Rattle.book_changes.proofs.Orderly.{first-fair, others}
 use Rattle.book_lines.specs.Lines.{line, saved, put}
 use Rattle.book_lines.proofs.LineLaws.{line-length, put-length, put-put}
+use Rattle.counted_books.specs.Counted.{held}
+use Rattle.counted_books.proofs.CountLaws.{lent}
+use Rattle.counted_books.proofs.Held.{holding}
 use Rattle.name_book.specs.Calls.{Leaves}
+use Rattle.name_book.proofs.CallLaws.{lent-entries}
+use Rattle.saved_books.specs.declared.Saved.{Saved}
 use Rattle.saved_books.specs.declared.Saved.the-variants.{Wrote, Refused}
 use Rattle.saved_books.specs.Saves.{settled, save}
 
@@ -68,11 +72,20 @@ pub save-unsound : (w out : List ℕ) → held w ≡ none → Leaves (Refused 18
 unfolding save
 save-unsound w out h = record { is = rw (h, save) }
 
-module _ (w out : List ℕ) {n : ℕ} (h : held w ≡ some (entries w)) (e : n ≡ length (saved (entries w))) where
-  pub save-short : length out < n → Leaves (Refused 9 n) out (save w out)
-  unfolding save settled
-  save-short l = record { is = rw (h, save) (rw (e, lt-leb (length (saved (entries w))) (length out) (omega arith))) }
+module _ (w out : List ℕ) {E : List Entry} (h : held w ≡ some E) where
+  pub lent-orderly : orderly (entries (lent w)) ≡ true
+  lent-orderly = rw (lent-entries w h) (holding w h .fits .orderly)
 
-  pub save-wrote : {v : List ℕ} → n ≤ length out → v ≡ put 0 (saved (entries w)) out → Leaves (Wrote n) v (save w out)
-  unfolding save settled put
-  save-wrote l x = record { is = rw (h, save) (rw (e, le-leb (length (saved (entries w))) (length out) (omega arith), x, zero-add)) }
+  -- the places were saved
+  pub save-sound : {r : Saved} {v : List ℕ} → Leaves r v (settled (saved (entries (lent w))) out) → Leaves r v (save w out)
+  unfolding save
+  save-sound l = record { is = rw (h, save) (rw (lent-entries w h) at (l .is)) }
+
+module _ (t out : List ℕ) {n : ℕ} (e : n ≡ length t) where
+  pub save-short : length out < n → Leaves (Refused 9 n) out (settled t out)
+  unfolding settled
+  save-short l = record { is = rw (e, lt-leb (length t) (length out) (omega arith)) }
+
+  pub save-wrote : {v : List ℕ} → n ≤ length out → v ≡ put 0 t out → Leaves (Wrote n) v (settled t out)
+  unfolding settled put
+  save-wrote l x = record { is = rw (e, le-leb (length t) (length out) (omega arith), x, zero-add) }

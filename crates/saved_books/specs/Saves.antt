@@ -6,7 +6,7 @@ use Prim.Native.Nat.{ℕ}
 use lib.Dec.{leb}
 use lib.ListN.{length, drop}
 use Rattle.book_entries.specs.declared.Entry.{Entry}
-use Rattle.book_entries.specs.Book.{held}
+use Rattle.counted_books.specs.Counted.{held}
 use Rattle.book_lines.specs.Lines.{saved}
 use Rattle.saved_books.specs.declared.Saved.{Saved}
 use Rattle.saved_books.specs.declared.Saved.the-variants.{Wrote, Refused}

@@ -6,12 +6,12 @@ ghost use lib.ListN.{length};
 ghost use Rattle.book_entries.specs.Book.{entries, orderly};
 ghost use Rattle.book_lines.specs.Lines.{saved, put};
 ghost use Rattle.name_book.specs.Calls.{Leaves};
-ghost use Rattle.saved_books.specs.Saves.{save as Saves·save};
+ghost use Rattle.saved_books.specs.Saves.{settled, save as Saves·save};
 use book_entries::entry_at;
 use book_lines::name_digits;
 use book_lines::put_line;
 use book_search::count;
-use book_search::sound;
+use counted_books::sound_book;
 
 // Wrote: the number of bytes. Refused: the number of the refusal, and the bytes needed, which only 9 has.
 pub enum Saved {
@@ -22,47 +22,55 @@ pub enum Saved {
 pub fn save(book: &[u32], out: &mut [u8]) -> Saved
     ensures { λ r. ⌜ Leaves r (now (out .exit)) (Saves·save (now (book .entry)) (now (out .entry))) ⌝ }
 {
-    if !sound(book) {
+    if !sound_book(book) {
         return Saved::Refused {
             number: 18,
             need: 0,
         };
     }
-    let n = count(book);
-    let need = bytes_needed(book, n);
+    save_at(&book[2..], out)
+}
+
+// The places of a sound book, saved.
+fn save_at(places: &[u32], out: &mut [u8]) -> Saved
+    requires { ⌜ orderly (entries (now places)) ≡ true ⌝ }
+    ensures { λ r. ⌜ Leaves r (now (out .exit)) (settled (saved (entries (now (places .entry)))) (now (out .entry))) ⌝ }
+{
+    let n = count(places);
+    let need = bytes_needed(places, n);
     if out.len() < need {
         return Saved::Refused {
             number: 9,
             need: need,
         };
     }
-    put_lines(book, n, out);
+    put_lines(places, n, out);
     Saved::Wrote { bytes: need }
 }
 
 // How many bytes the lines of n entries have.
-fn bytes_needed(book: &[u32], n: usize) -> usize
-    requires { ⌜ (n ≡ length (entries (now book))) × (orderly (entries (now book)) ≡ true) ⌝ }
-    ensures { λ r. ⌜ r ≡ length (saved (entries (now (book .entry)))) ⌝ }
+fn bytes_needed(places: &[u32], n: usize) -> usize
+    requires { ⌜ (n ≡ length (entries (now places))) × (orderly (entries (now places)) ≡ true) ⌝ }
+    ensures { λ r. ⌜ r ≡ length (saved (entries (now (places .entry)))) ⌝ }
 {
     let mut need = 0;
     let mut i = 0;
     while i < n {
-        need = need + name_digits(entry_at(book, i)) + 14;
+        need = need + name_digits(entry_at(places, i)) + 14;
         i += 1;
     }
     need
 }
 
 // The lines of n entries from the first byte on; the bytes behind them stay.
-fn put_lines(book: &[u32], n: usize, out: &mut [u8])
-    requires { ⌜ (n ≡ length (entries (now book))) × (orderly (entries (now book)) ≡ true) × (length (saved (entries (now book))) ≤ length (now out)) ⌝ }
-    ensures { λ _. ⌜ now (out .exit) ≡ put 0 (saved (entries (now (book .entry)))) (now (out .entry)) ⌝ }
+fn put_lines(places: &[u32], n: usize, out: &mut [u8])
+    requires { ⌜ (n ≡ length (entries (now places))) × (orderly (entries (now places)) ≡ true) × (length (saved (entries (now places))) ≤ length (now out)) ⌝ }
+    ensures { λ _. ⌜ now (out .exit) ≡ put 0 (saved (entries (now (places .entry)))) (now (out .entry)) ⌝ }
 {
     let mut at = 0;
     let mut i = 0;
     while i < n {
-        let e = entry_at(book, i);
+        let e = entry_at(places, i);
         put_line(out, at, e);
         at = at + name_digits(e) + 14;
         i += 1;

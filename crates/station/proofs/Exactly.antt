@@ -10,7 +10,8 @@ use lib.ListN.{length}
 use borrow.Author.Tests.{leb-true, ltb-true, eqb-true, le-leb, lt-ltb, eq-eqb}
 use Rattle.book_entries.specs.declared.Entry.{Entry}
 use Rattle.book_entries.specs.Entries.{good}
-use Rattle.book_entries.specs.Book.{holds, numbered, shown, held, room}
+use Rattle.book_entries.specs.Book.{holds, numbered}
+use Rattle.counted_books.specs.Counted.{shown, held, room}
 use Rattle.book_changes.specs.Changes.{insert}
 use Rattle.named_entries.proofs.GoodNames.{named-good}
 use Rattle.name_book.specs.Calls as book

@@ -10,7 +10,8 @@ use lib.ListN.{length, getD}
 use borrow.Author.Tests.{eqb-true, eq-eqb}
 use Rattle.book_entries.specs.declared.Entry.{Entry}
 use Rattle.book_entries.specs.Entries.{text, size, bytes}
-use Rattle.book_entries.specs.Book.{place, holds, named, numbered, orderly, held}
+use Rattle.book_entries.specs.Book.{place, holds, named, numbered, orderly}
+use Rattle.counted_books.specs.Counted.{held}
 use Rattle.book_entries.proofs.Tests.{both}
 use Rattle.book_changes.specs.Changes.{vacant}
 use Rattle.book_changes.proofs.Orderly.{alike, Fair, first-fair, others}

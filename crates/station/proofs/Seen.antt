@@ -9,7 +9,8 @@ use lib.ListN.{length}
 use borrow.Author.Tests.{eqb-true}
 use Rattle.book_entries.specs.declared.Entry.{Entry}
 use Rattle.book_entries.specs.Entries.{good}
-use Rattle.book_entries.specs.Book.{holds, numbered, held, room}
+use Rattle.book_entries.specs.Book.{holds, numbered}
+use Rattle.counted_books.specs.Counted.{held, room}
 use Rattle.named_entries.proofs.GoodNames.{named-good}
 use Rattle.name_book.specs.Calls as book
 use Rattle.name_book.specs.Calls.{opened, first, add}

@@ -3,22 +3,21 @@ use mathlib.Core.Path.{_≡_, refl, sym, ap, _∙_}
 use mathlib.Core.Bool.{Bool, true, false, cond, not, _&&_, _||_}
 use mathlib.Core.List.{List, [], _∷_}
 use mathlib.Core.Option.{none, some}
-use Prim.Native.Nat.{ℕ, _*_, _/_, _≤_, _<_}
-use native.Mathlib.Omega.{arith}
+use Prim.Native.Nat.{ℕ, _*_, _/_, _-_}
 use lib.Dec.{leb, ltb, eqb}
 use lib.ListN.{length}
 use Rattle.book_entries.specs.declared.Entry.{Entry}
 use Rattle.book_entries.specs.Entries.{good}
-use Rattle.book_entries.specs.Book.{holds, numbered, held, room}
-use Rattle.book_entries.proofs.Places.{places}
-use Rattle.book_entries.proofs.Held.{holding}
+use Rattle.book_entries.specs.Book.{holds, numbered}
+use Rattle.counted_books.specs.Counted.{held}
+use Rattle.counted_books.proofs.Held.{holding}
 use Rattle.book_changes.specs.Changes.{insert}
 use Rattle.book_changes.proofs.Orderly.{alike, holds-insert}
 use Rattle.name_book.specs.Calls as book
 use Rattle.name_book.specs.Calls.{add}
 use Rattle.name_book.specs.declared.Added.{Added}
 use Rattle.book_history.specs.History.{adding, after, says}
-use Rattle.book_history.proofs.Kept.{Fits, Keeps, kept}
+use Rattle.book_history.proofs.Kept.{Keeps, kept}
 use Rattle.station.specs.declared.Offered.{Offered}
 use Rattle.station.specs.Offers.{Call, nameOf, entry, offer}
 use Rattle.station.specs.Shifts.{Turn, run}
@@ -54,7 +53,7 @@ either P c w same more =
 
 after-one : {n : ℕ} (w : List ℕ) (E : List Entry) → Keeps n w E → (c : Call) → Kept n E (offer c w .1)
 unfolding after says
-after-one {n} w E k c = either (Kept n E) c w (record { now = E; keeps = k; stays = λ fits h. h }) (record { now = _; keeps = kept k (adding (entry c)); stays = λ fits h. stays fits (n / 4) (entry c) E h })
+after-one {n} w E k c = either (Kept n E) c w (record { now = E; keeps = k; stays = λ fits h. h }) (record { now = _; keeps = kept k (adding (entry c)); stays = λ fits h. stays fits ((n - 2) / 4) (entry c) E h })
 
 after-all : {n : ℕ} (w : List ℕ) (E : List Entry) → Keeps n w E → (ts : List Turn) → Kept n E (run w ts)
 unfolding run
@@ -66,6 +65,4 @@ after-all w E k (t ∷ ts) =
 
 -- every entry of a sound book is held after any calls
 pub bindings-stay : (w : List ℕ) (E : List Entry) → held w ≡ some E → (ts : List Turn) → Kept (length w) E (run w ts)
-bindings-stay w E h ts =
-    let i = holding h in
-    after-all w E (record { long = refl; holds = h; fits = record { orderly = i .orderly; few = omega (arith, places w, ap length (i .is)) } }) ts
+bindings-stay w E h ts = after-all w E (record { long = refl; holds = h; fits = holding w h .fits }) ts

@@ -1,4 +1,6 @@
 // What is held and counted at the end.
+use counted_books::Free;
+use counted_books::free_places;
 use listing::put_decimal;
 use listing::put_text;
 use name_book::Found;
@@ -6,12 +8,28 @@ use name_book::look_up;
 use station::Shift;
 
 // A name of two characters, with its frame's number and byte length.
-pub fn held(book: &[u32; 8], name: &[u8], text: u64) {
+pub fn held(book: &[u32; 10], name: &[u8], text: u64) {
     let found = look_up(book, text, 2);
     let mut line = listing::new();
     let mut n = put_text(&mut line, 0, name);
     n = put_text(&mut line, n, b": ");
     n = put_found(&mut line, n, found);
+    listing::write(&mut line, n);
+}
+
+// How many names the book still takes.
+pub fn free(book: &[u32; 10]) {
+    let mut line = listing::new();
+    let mut n = put_text(&mut line, 0, b"free: ");
+    match free_places(book) {
+        Free::Places { count } => {
+            n = put_decimal(&mut line, n, count);
+        }
+        Free::Refused { number } => {
+            n = put_text(&mut line, n, b"no ");
+            n = put_decimal(&mut line, n, number);
+        }
+    }
     listing::write(&mut line, n);
 }
 

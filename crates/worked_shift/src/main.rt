@@ -3,6 +3,7 @@
 mod turns; // turns.rt: a call with its line
 mod ends; // ends.rt: what is held and counted at the end
 
+use counted_books::empty_book;
 use station::begin;
 use turns::turn;
 
@@ -55,7 +56,9 @@ fn shared() {
         0x08,
         0x00,
     ];
-    let mut book = [0u32; 8];
+    let mut book = [7u32; 10];
+    empty_book(&mut book);
+    ends::free(&book);
     let mut one = begin();
     let mut two = begin();
     one = turn(one, &mut book, 1, 7, 91, b"AA", &aa);
@@ -68,6 +71,7 @@ fn shared() {
     one = turn(one, &mut book, 1, 7, 96, b"AB", &ab);
     one = turn(one, &mut book, 1, 9, 96, b"AB", &ab);
     two = turn(two, &mut book, 2, 8, 96, b"AC", &ac);
+    ends::free(&book);
     ends::held(&book, b"AA", 0x4141000000000000);
     ends::held(&book, b"AB", 0x4142000000000000);
     ends::held(&book, b"AC", 0x4143000000000000);
@@ -75,7 +79,7 @@ fn shared() {
     ends::counts(2, two);
 }
 
-// No call leaves such words.
+// No call leaves such words, or such a number of free places.
 fn spoiled() {
     let aa = [
         0x43u8,
@@ -91,6 +95,17 @@ fn spoiled() {
         0x08,
         0x00,
     ];
-    let mut book = [1u32; 8];
+    let mut book = [1u32; 10];
     turn(begin(), &mut book, 1, 7, 96, b"AA", &aa);
+    let mut miscounted = [0u32; 10];
+    miscounted[1] = 3;
+    turn(
+        begin(),
+        &mut miscounted,
+        1,
+        7,
+        96,
+        b"AA, two places called three",
+        &aa,
+    );
 }

@@ -9,7 +9,7 @@ use station::offer;
 // The shift with the call counted. Each table has one element, without an argument.
 pub fn turn(
     shift: Shift,
-    book: &mut [u32; 8],
+    book: &mut [u32; 10],
     station: u64,
     number: u32,
     arrived: usize,

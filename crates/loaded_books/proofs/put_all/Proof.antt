@@ -14,10 +14,10 @@ use Rattle.loaded_books.proofs.put_all.Statement.{statement}
 use Rattle.loaded_books.proofs.put_all.Tie as tie
 
 abbrev Inv-loop : tie.InvT-loop
-Inv-loop book₀ saved n₀ start₀ book n start = (start ≤ length saved) × Putting saved book₀ book n start
+Inv-loop places₀ saved n₀ start₀ places n start = (start ≤ length saved) × Putting saved places₀ places n start
 
 abbrev μ-loop : tie.MeasureT-loop
-μ-loop book₀ saved n₀ start₀ book n start = length saved - start
+μ-loop places₀ saved n₀ start₀ places n start = length saved - start
 
 loop-holds : tie.Need-loop-holds Inv-loop μ-loop
 loop-holds c = (omega arith, put-first (c .before .before .pre .0) (c .before .before .pre .1))

@@ -1,36 +1,43 @@
--- Each way through the code is one of the definition.
+-- A sound book: its places are lent, and the number in front is set anew.
 use mathlib.Core.Path.{_≡_}
+use mathlib.Core.List.{List}
 use mathlib.Core.Option.{some}
-use native.Mathlib.Omega.{arith}
+use Prim.Native.Nat.{ℕ}
+use lib.ListN.{drop}
 use borrow.Author.Needs.{needs}
 use borrow.Author.Tests.{not-true, not-false}
-use Rattle.book_entries.specs.Book.{numbered, entries, held}
-use Rattle.name_book.proofs.CallLaws.{unheld, is-held, absent, withdraw-unsound, withdraw-absent, withdraw-gone}
+use Rattle.book_entries.specs.Book.{entries}
+use Rattle.counted_books.specs.Counted.{held, room}
+use Rattle.counted_books.proofs.Held.{holding}
+use Rattle.name_book.specs.declared.Withdrawn.the-variants.{Refused}
+use Rattle.name_book.specs.Calls.{take-out, withdraw}
+use Rattle.name_book.proofs.FitLaws.{taken}
+use Rattle.name_book.proofs.CallLaws.{unheld, is-held, lent-long, lent-listed, back-long, opened-none, opened-changed}
 use Rattle.name_book.proofs.withdraw.Statement.{statement}
 use Rattle.name_book.proofs.withdraw.Tie as tie
 
-held-at : (c : tie.Else1) → held (c .before .before .before .before .args .book .now) ≡ some (entries (c .before .before .before .before .args .book .now))
-held-at c = is-held (c .before .before .before .before .args .book .now) (c .before .sound .ensures) (not-false (c .before .sound .result) (c .if1 .left))
+abbrev words : tie.Else1 → List ℕ
+words c = c .before .before .before .before .args .book .now
+
+is-sound : (c : tie.Else1) → held (words c) ≡ some (entries (drop 2 (words c)))
+is-sound c = is-held (words c) (c .before .sound-book .ensures) (not-false (c .before .sound-book .result) (c .if1 .left))
 
 returns : tie.Need-returns
+unfolding withdraw
 returns c =
     let a = c .before .before .before .before .args in
-    withdraw-unsound (a .book .now) (a .number) (unheld (a .book .now) (c .before .sound .ensures) (not-true (c .before .sound .result) (c .if1 .taken)))
+    opened-none (Refused 18) (a .book .now) _ (unheld (a .book .now) (c .before .sound-book .ensures) (not-true (c .before .sound-book .result) (c .if1 .taken)))
 
 returns-2 : tie.Need-returns-2
+unfolding withdraw
 returns-2 c =
-    let a = c .before .before .before .before .before .before .before .before .before .args in
-    withdraw-absent (a .book .now) (a .number) (held-at (c .before .before .before .before .before))
-    (absent (numbered (a .number)) (entries (a .book .now)) (c .before .find-number .ensures) (c .before .before .before .count .ensures) (c .if2 .taken))
-
-returns-3 : tie.Need-returns-3
-returns-3 c =
-    let z = c .before .before .before .before .before in
-    let a = z .before .before .before .before .before .before .before .before .args in
-    withdraw-gone (a .book .now) (a .number) (held-at (z .before .before .before .before)) (z .find-number .ensures) (z .before .before .count .ensures) (c .before .before .before .before .if2 .left) (c .before .before .remove .ensures)
+    let s = c .before .before .before .before .before .before .before .before in
+    let E = entries (drop 2 (words s)) in
+    opened-changed (Refused 18) (words s) (λ n. take-out (s .before .before .before .before .args .number)) (is-sound s) (taken (room (words s)) E (holding (words s) (is-sound s) .fits) (s .before .before .before .before .args .number)) (c .before .before .before .before .before .before .withdraw-at .ensures) (c .before .before .recount .ensures)
 
 pub withdraw-spec : {M : Type 1} → statement M
 withdraw-spec =
     tie.close
     (tie.spec
-    (λ c κs. search needs) (λ c. search needs) returns (λ c κs. search needs) (λ c κs. search needs) (λ c. search needs) returns-2 (λ c κs. search needs) (λ c. search needs) returns-3)
+    (λ c κs. search needs) (λ c. search needs) returns (λ c. lent-long (words c) (is-sound c)) (λ c. lent-long (words c) (is-sound c)) (λ c. search needs) (λ c κs. lent-listed (words (c .before)) (is-sound (c .before)))
+    (λ c κs. back-long (words (c .before .before .before .before .before)) (is-sound (c .before .before .before .before .before)) (c .before .before .before .withdraw-at .last .0)) (λ c. search needs) returns-2)

@@ -21,24 +21,24 @@ abbrev μ-loop : tie.MeasureT-loop
 μ-loop book n need₀ i₀ need i = n - i
 
 loop-holds : tie.Need-loop-holds Inv-loop μ-loop
-loop-holds c = (omega arith, omega (arith, places (c .before .args .book .now)), omega arith, c .before .pre .1, omega arith)
+loop-holds c = (omega arith, omega (arith, places (c .before .args .places .now)), omega arith, c .before .pre .1, omega arith)
 
 -- the digits of the name at place i
 module _ (c : tie.After-name-digits Inv-loop μ-loop) where
-  are : c .name-digits .result ≡ size (entryAt (c .before .before .before .before .before .args .book .now) (c .before .before .before .loop .i)) * 2
+  are : c .name-digits .result ≡ size (entryAt (c .before .before .before .before .before .args .places .now) (c .before .before .before .loop .i)) * 2
   are = c .name-digits .ensures ∙ ap (λ (e : Entry). size e * 2) (c .before .entry-at .ensures)
 
-  few : size (entryAt (c .before .before .before .before .before .args .book .now) (c .before .before .before .loop .i)) ≤ 8
-  few = next-size (c .before .before .before .before .before .args .book .now) (c .before .before .before .loop .i) (omega arith) (c .before .before .before .loop .inv .3) .1
+  few : size (entryAt (c .before .before .before .before .before .args .places .now) (c .before .before .before .loop .i)) ≤ 8
+  few = next-size (c .before .before .before .before .before .args .places .now) (c .before .before .before .loop .i) (omega arith) (c .before .before .before .loop .inv .3) .1
 
 loop-again : tie.Need-loop-again Inv-loop μ-loop
 loop-again c =
     let z = c .before .before .before .loop in
-    let b = c .before .before .before .before .before .args .book .now in
+    let b = c .before .before .before .before .before .args .places .now in
     (omega arith, z .inv .1, omega (arith, are c, few c), next-orderly b (z .i) (omega arith) (z .inv .3), omega (arith, are c, next-length b (z .i) (omega arith)))
 
 returns : tie.Need-returns Inv-loop μ-loop
-returns c = omega (arith, no-bytes (c .before .before .before .args .book .now) (c .before .loop .i) (omega arith))
+returns c = omega (arith, no-bytes (c .before .before .before .args .places .now) (c .before .loop .i) (omega arith))
 
 pub bytes-needed-spec : {M : Type 1} → statement M
 bytes-needed-spec =

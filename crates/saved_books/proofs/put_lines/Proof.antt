@@ -22,18 +22,18 @@ abbrev μ-loop : tie.MeasureT-loop
 μ-loop book n out₀ at₀ i₀ out at i = n - i
 
 loop-holds : tie.Need-loop-holds Inv-loop μ-loop
-loop-holds c = (omega arith, omega (arith, places (c .before .before .args .book .now)), refl, omega (arith, c .before .before .pre .2), c .before .before .pre .1, refl)
+loop-holds c = (omega arith, omega (arith, places (c .before .before .args .places .now)), refl, omega (arith, c .before .before .pre .2), c .before .before .pre .1, refl)
 
 -- the entry at place i: its size, and the bytes that its line needs
 module _ (c : tie.After-entry-at Inv-loop μ-loop) where
-  same : size (c .entry-at .result) ≡ size (entryAt (c .before .before .before .before .before .args .book .now) (c .before .before .loop .i))
+  same : size (c .entry-at .result) ≡ size (entryAt (c .before .before .before .before .before .args .places .now) (c .before .before .loop .i))
   same = ap size (c .entry-at .ensures)
 
   sizes : (2 ≤ size (c .entry-at .result)) × (size (c .entry-at .result) ≤ 8)
-  sizes = let n = next-size (c .before .before .before .before .before .args .book .now) (c .before .before .loop .i) (omega arith) (c .before .before .loop .inv .4) in rw same n
+  sizes = let n = next-size (c .before .before .before .before .before .args .places .now) (c .before .before .loop .i) (omega arith) (c .before .before .loop .inv .4) in rw same n
 
-  needs-room : c .before .before .loop .at + (size (c .entry-at .result) * 2 + 14) + length (saved (from (c .before .before .before .before .before .args .book .now) (c .before .before .loop .i + 1))) ≤ length (c .before .before .loop .out)
-  needs-room = omega (arith, same, next-length (c .before .before .before .before .before .args .book .now) (c .before .before .loop .i) (omega arith), c .before .before .loop .inv .3)
+  needs-room : c .before .before .loop .at + (size (c .entry-at .result) * 2 + 14) + length (saved (from (c .before .before .before .before .before .args .places .now) (c .before .before .loop .i + 1))) ≤ length (c .before .before .loop .out)
+  needs-room = omega (arith, same, next-length (c .before .before .before .before .before .args .places .now) (c .before .before .loop .i) (omega arith), c .before .before .loop .inv .3)
 
 put-line-requires : tie.Need-put-line-requires Inv-loop μ-loop
 put-line-requires c κs = (sizes (c .before) .0, sizes (c .before) .1, omega (arith, needs-room (c .before)))
@@ -45,7 +45,7 @@ loop-again : tie.Need-loop-again Inv-loop μ-loop
 loop-again c =
     let e = c .before .before .before .before .before in
     let z = c .before .before .before .before .before .before .before .loop in
-    let b = c .before .before .before .before .before .before .before .before .before .before .args .book .now in
+    let b = c .before .before .before .before .before .before .before .before .before .before .args .places .now in
     let long = ap length (c .before .before .before .put-line .ensures) ∙ put-length (z .at) (line (e .entry-at .result)) (z .out) (omega (arith, line-length (e .entry-at .result), needs-room e)) in (
       omega arith,
       z .inv .1,
@@ -56,7 +56,7 @@ loop-again c =
     )
 
 returns : tie.Need-returns Inv-loop μ-loop
-returns c = ended (c .before .before .before .before .args .book .now) (c .before .loop .i) (c .before .loop .at) (c .before .loop .out) (omega arith) (c .before .loop .inv .5)
+returns c = ended (c .before .before .before .before .args .places .now) (c .before .loop .i) (c .before .loop .at) (c .before .loop .out) (omega arith) (c .before .loop .inv .5)
 
 pub put-lines-spec : {M : Type 1} → statement M
 put-lines-spec =

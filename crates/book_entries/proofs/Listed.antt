@@ -1,4 +1,4 @@
--- A slice holds the entries E exactly if it is their picture, and they are orderly.
+-- Places list the entries E exactly if they are their picture, and the entries are orderly.
 use mathlib.Core.Path.{_≡_, refl, sym, ap, _∙_}
 use mathlib.Core.Bool.{Bool, true, false, cond, _&&_}
 use mathlib.Core.List.{List, [], _∷_, _++_}
@@ -11,7 +11,7 @@ use lib.Seq.{drop-at}
 use borrow.Author.Tests.{eqb-true, ne-eqb}
 use Rattle.book_entries.specs.declared.Entry.{Entry}
 use Rattle.book_entries.specs.Entries.{good}
-use Rattle.book_entries.specs.Book.{fair, orderly, picture, shown, entries, clear, held}
+use Rattle.book_entries.specs.Book.{fair, orderly, picture, laid, entries, clear, listed}
 use Rattle.book_entries.proofs.Places.{pictured, places, picture-length}
 use Rattle.book_entries.proofs.Tests.{both, shape-good}
 
@@ -27,8 +27,8 @@ unfolding clear
 zeros-clear zero = refl
 zeros-clear (suc n) = zeros-clear n
 
--- what is known of a slice that holds E
-pub record Holding (w : List ℕ) (E : List Entry) : Type 0 where
+-- what is known of places that list E
+pub record Listing (w : List ℕ) (E : List Entry) : Type 0 where
   pub is : entries w ≡ E
   pub orderly : orderly E ≡ true
   pub clear : clear (drop (length E * 4) w) ≡ true
@@ -37,28 +37,28 @@ judged : (b : Bool) {E F : List Entry} → cond b (some E) none ≡ some F → (
 judged true e = (refl, cc)
 judged false {E} {F} e = absurd (let z : _≡_ {A = ℕ} 0 1 = ap (λ (o : Option (List Entry)). elim o [ none ↦ 0 | some X ↦ 1 ]) e in omega arith)
 
-pub holding : {w : List ℕ} {E : List Entry} → held w ≡ some E → Holding w E
-unfolding held
-holding {w} {E} e =
+pub listing : {w : List ℕ} {E : List Entry} → listed w ≡ some E → Listing w E
+unfolding listed
+listing {w} {E} e =
     let j = judged _ e in
     let b = both _ _ (j .0) in
     record { is = j .1; orderly = rw (← j .1) (b .0); clear = rw (← j .1) (b .1) }
 
--- n words that hold E
+-- n words that list E
 module _ (n : ℕ) (E : List Entry) (fits : length E * 4 ≤ n) where
-  pub shown-length : length (shown n E) ≡ n
-  unfolding shown
-  shown-length = length-append (picture E) (replicate (n - length E * 4) 0) ∙ omega (arith, picture-length E, length-replicate {A = ℕ} (n - length E * 4) 0)
+  pub laid-length : length (laid n E) ≡ n
+  unfolding laid
+  laid-length = length-append (picture E) (replicate (n - length E * 4) 0) ∙ omega (arith, picture-length E, length-replicate {A = ℕ} (n - length E * 4) 0)
 
 -- the words are the picture of the entries
-pub shown-is : {w : List ℕ} {E : List Entry} → held w ≡ some E → w ≡ shown (length w) E
-unfolding shown
-shown-is {w} {E} e =
-    let h = holding e in
+pub laid-is : {w : List ℕ} {E : List Entry} → listed w ≡ some E → w ≡ laid (length w) E
+unfolding laid
+laid-is {w} {E} e =
+    let h = listing e in
     let z : drop (length E * 4) w ≡ replicate (length w - length E * 4) 0 = clear-zeros _ (h .clear) ∙ ap (λ (k : ℕ). replicate k 0) (length-drop (length E * 4) w) in
     pictured w ∙ rw (h .is, z)
 
-zeros-none : (n : ℕ) → entries (replicate n 0) ≡ []
+pub zeros-none : (n : ℕ) → entries (replicate n 0) ≡ []
 unfolding entries
 zeros-none zero = refl
 zeros-none (suc zero) = refl
@@ -74,9 +74,9 @@ entries-of (e ∷ E) n o =
     let t = both (fair e E) (orderly E) o in
     rw (s, entries-of E n (t .1))
 
--- and the picture of orderly entries holds them
-pub held-shown : (n : ℕ) (E : List Entry) → orderly E ≡ true → length E * 4 ≤ n → held (shown n E) ≡ some E
-unfolding held shown
-held-shown n E o fits =
+-- and the picture of orderly entries lists them
+pub listed-laid : (n : ℕ) (E : List Entry) → orderly E ≡ true → length E * 4 ≤ n → listed (laid n E) ≡ some E
+unfolding listed laid
+listed-laid n E o fits =
     let z : List ℕ = replicate (n - length E * 4) 0 in
     rw (entries-of E (n - length E * 4) o, o, drop-at (picture E) z (length E * 4) (picture-length E), zeros-clear (n - length E * 4))
