@@ -1,4 +1,4 @@
-// Changes of the words of a book.
+// Changes of the places of a book.
 ghost use mathlib.Core.Path.{_≡_};
 ghost use mathlib.Core.List.{_++_};
 ghost use Prim.Native.Nat.{_+_, _*_, _≤_, _<_};
@@ -11,7 +11,7 @@ use book_entries::Entry;
 use book_entries::entry_at;
 use book_entries::put_entry;
 
-// "One call empties any slice."
+// No place is in use.
 pub fn empty(book: &mut [u32])
     ensures { λ _. ⌜ now (book .exit) ≡ replicate (length (now (book .entry))) 0 ⌝ }
 {

@@ -1,4 +1,4 @@
-// The entries of a name book: four words each.
+// The entries of a name book: a place has four words.
 ghost use mathlib.Core.Path.{_≡_};
 ghost use mathlib.Core.List.{_++_};
 ghost use Prim.Native.Nat.{_+_, _*_, _^_, _-_, _≤_, _<_};

@@ -2,3 +2,5 @@ pub mod Kept
 pub mod Histories
 pub mod Once
 pub mod Refused
+pub mod SameBook
+pub mod SoundLeft

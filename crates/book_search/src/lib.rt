@@ -1,4 +1,4 @@
-// What a book holds: the number of its entries, where one stands, and whether the calls can have left such a slice.
+// What the places of a book hold: the number of their entries, where one stands, and whether the calls can have left such places.
 ghost use mathlib.Core.Path.{_≡_};
 ghost use mathlib.Core.Bool.{cond};
 ghost use mathlib.Core.List.{List};
@@ -57,7 +57,7 @@ pub fn find_number(book: &[u32], n: usize, number: u32) -> usize
     i
 }
 
-// Whether the calls can have left these words.
+// Whether the calls can have left these places.
 pub fn sound(book: &[u32]) -> bool
     ensures { λ r. ⌜ listed (now (book .entry)) ≡ cond r (some (entries (now (book .entry)))) none ⌝ }
 {
