@@ -1,3 +1,4 @@
 pub mod Places
 pub mod Tests
+pub mod GoodEntries
 pub mod Listed

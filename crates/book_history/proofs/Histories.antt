@@ -1,8 +1,7 @@
 -- After any sequence of calls from an emptied slice the book holds exactly what the history says, and keeps the number of its free places.
-use mathlib.Core.Path.{_≡_, refl, sym, ap, _∙_}
+use mathlib.Core.Path.{_≡_}
 use mathlib.Core.List.{List, [], _∷_}
 use Prim.Native.Nat.{ℕ, _/_, _-_, _≤_}
-use native.Mathlib.Omega.{arith}
 use lib.ListN.{length}
 use Rattle.book_entries.specs.declared.Entry.{Entry}
 use Rattle.counted_books.specs.declared.Free.the-variants.{Places}

@@ -1,6 +1,6 @@
 -- A call on a book that holds E leaves a book that holds what the history says, in as many words.
-use mathlib.Core.Path.{_≡_, refl, sym, ap, _∙_}
-use mathlib.Core.List.{List, [], _∷_}
+use mathlib.Core.Path.{_≡_, refl, ap, _∙_}
+use mathlib.Core.List.{List, []}
 use mathlib.Core.Option.{some}
 use Prim.Native.Nat.{ℕ, _/_, _-_, _≤_}
 use native.Mathlib.Omega.{arith}

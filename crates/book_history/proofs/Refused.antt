@@ -1,5 +1,5 @@
 -- A call that refuses leaves the book, and so its number.
-use mathlib.Core.Path.{_≡_, refl, sym, ap, _∙_}
+use mathlib.Core.Path.{_≡_, refl, sym}
 use mathlib.Core.Bool.{Bool, true, false, cond, not}
 use mathlib.Core.List.{List, []}
 use mathlib.Core.Option.{Option, none, some}
@@ -10,7 +10,7 @@ use Rattle.book_entries.specs.declared.Entry.{Entry}
 use Rattle.book_entries.specs.Entries.{good}
 use Rattle.book_entries.specs.Book.{holds, numbered}
 use Rattle.book_changes.proofs.Orderly.{alike}
-use Rattle.counted_books.specs.Counted.{shown, held, room}
+use Rattle.counted_books.specs.Counted.{held, room}
 use Rattle.counted_books.proofs.Held.{holding}
 use Rattle.name_book.specs.declared.Added as added
 use Rattle.name_book.specs.declared.Withdrawn as withdrawn

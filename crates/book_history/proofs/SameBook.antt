@@ -1,11 +1,10 @@
 -- A saved book loads as the same book.
-use mathlib.Core.Path.{_≡_, refl, sym, ap, _∙_}
-use mathlib.Core.Bool.{Bool, true, false, cond, not, _&&_, _||_}
-use mathlib.Core.List.{List, [], _∷_, _++_, append-assoc}
-use mathlib.Core.Option.{Option, none, some}
-use Prim.Native.Nat.{ℕ, suc, _≤_, _<_}
+use mathlib.Core.Path.{_≡_, refl, ap, _∙_}
+use mathlib.Core.Bool.{Bool, true, false, _||_}
+use mathlib.Core.List.{List, [], _∷_, _++_}
+use mathlib.Core.Option.{some}
+use Prim.Native.Nat.{ℕ, _≤_, _<_}
 use native.Mathlib.Omega.{arith}
-use lib.Dec.{leb, ltb, eqb}
 use lib.ListN.{length, take, drop}
 use lib.Seq.{append-snoc, take-at}
 use borrow.Author.Tests.{ltb-true, le-leb, le-ltb, ne-eqb}
@@ -16,12 +15,12 @@ use Rattle.book_changes.proofs.Orderly.{alike, first-fair, others}
 use Rattle.counted_books.specs.Counted.{room, shown, held}
 use Rattle.counted_books.proofs.Held.{holding}
 use Rattle.name_book.specs.Calls.{opened}
-use Rattle.book_lines.specs.Lines.{saved, InWords, lines}
+use Rattle.book_lines.specs.Lines.{saved, InWords}
 use Rattle.book_lines.proofs.Returned.{saved-back}
 use Rattle.saved_books.specs.declared.Saved.the-variants.{Wrote}
 use Rattle.saved_books.specs.Saves.{settled, save}
-use Rattle.loaded_books.specs.declared.Loaded.the-variants.{Done, Refused}
-use Rattle.loaded_books.specs.Loads.{meets, distinct, gathered, replaced, load}
+use Rattle.loaded_books.specs.declared.Loaded.the-variants.{Done}
+use Rattle.loaded_books.specs.Loads.{distinct, gathered, replaced, load}
 
 -- no entry behind g has a number up to g's
 above : (k : ℕ) (g : Entry) → k ≤ g .number → (E : List Entry) → before g E ≡ true → orderly E ≡ true → holds (numbered k) E ≡ false

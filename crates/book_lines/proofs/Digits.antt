@@ -1,8 +1,8 @@
 -- Digits that were written are read as the number they show.
-use mathlib.Core.Path.{_≡_, refl, sym, ap, _∙_}
+use mathlib.Core.Path.{_≡_, refl, _∙_}
 use mathlib.Core.Bool.{Bool, true, false, cond}
 use mathlib.Core.List.{List, [], _∷_, _++_, append-assoc, append-nil}
-use mathlib.Core.Option.{Option, none, some}
+use mathlib.Core.Option.{none, some}
 use Prim.Native.Nat.{ℕ, zero, suc, _+_, _*_, _/_, _%_, _-_, _^_, _≤_, _<_}
 use native.Mathlib.Nat.{pow-suc}
 use native.Mathlib.Decide.{decLe}
@@ -12,7 +12,6 @@ use lib.Pow.{pow-add}
 use lib.Dec.{ltb}
 use lib.Seq.{append-snoc}
 use borrow.Author.Tests.{lt-ltb, le-ltb, ne-eqb}
-use Rattle.book_entries.specs.declared.Entry.{Entry}
 use Rattle.book_lines.specs.Lines.{digit, digits, value, onward, lines}
 
 -- the two forms of a digit's character

@@ -1,49 +1,23 @@
 -- A saved book is read as the same entries.
-use mathlib.Core.Path.{_≡_, refl, sym, ap, _∙_}
-use mathlib.Core.Bool.{Bool, true, false, cond, not, _&&_}
+use mathlib.Core.Path.{_≡_, refl, sym, _∙_}
+use mathlib.Core.Bool.{true, not, _&&_}
 use mathlib.Core.List.{List, [], _∷_, _++_, append-assoc}
-use mathlib.Core.Option.{Option, none, some}
-use Prim.Native.Nat.{ℕ, zero, suc, _+_, _*_, _/_, _%_, _-_, _^_, _≤_, _<_}
+use mathlib.Core.Option.{some}
+use Prim.Native.Nat.{ℕ, _+_, _*_, _/_, _%_, _-_, _^_, _≤_, _<_}
 use native.Mathlib.Nat.{one-le-pow, div-add-mod', div-lt-iff-lt-mul}
 use native.Mathlib.Omega.{arith}
 use lib.Pow.{pow-add}
-use lib.Dec.{leb, ltb, eqb, lit≤}
-use lib.ListN.{length, take, drop, length-append}
-use lib.Seq.{take-at, drop-at, append-snoc}
-use borrow.Author.Tests.{leb-true, ltb-true, eqb-true, le-leb}
+use lib.Dec.{lit≤}
+use lib.Seq.{append-snoc}
 use Rattle.book_entries.specs.declared.Entry.{Entry}
-use Rattle.book_entries.specs.Entries.{text, size, bytes, plain, good}
+use Rattle.book_entries.specs.Entries.{text, size, bytes, good}
 use Rattle.book_entries.specs.Book.{holds, named, before, fair, orderly}
 use Rattle.book_entries.proofs.Tests.{both}
+use Rattle.book_entries.proofs.GoodEntries.{Numbers, numbers}
 use Rattle.book_lines.specs.Lines.{digits, line, saved, InWords, entryOf, checked, entry, also, lines}
 use Rattle.book_lines.proofs.LineLaws.{digits-length}
 use Rattle.book_lines.proofs.Parts.{read}
 use Rattle.book_lines.proofs.Digits.{read-digits, lines-digits, two-digits}
-
-plain-small : (x : ℕ) → plain x ≡ true → x < 4294967296
-unfolding plain
-plain-small x p =
-    let a = both (ltb (x % 256) 128) (ltb (x / 256 % 256) 128 && (ltb (x / 65536 % 256) 128 && ltb (x / 16777216) 128)) p in
-    let b = both (ltb (x / 256 % 256) 128) (ltb (x / 65536 % 256) 128 && ltb (x / 16777216) 128) (a .1) in
-    omega (arith, ltb-true (x / 16777216) 128 (both (ltb (x / 65536 % 256) 128) (ltb (x / 16777216) 128) (b .1) .1))
-
--- the numbers of a good entry
-record Numbers (e : Entry) : Type 0 where
-  least : 2 ≤ size e
-  most : size e ≤ 8
-  high : e .high < 4294967296
-  low : e .low < 4294967296
-  ends : text e % 256 ^ (8 - size e) ≡ 0
-
-numbers : (e : Entry) → good e ≡ true → Numbers e
-unfolding good
-numbers e g =
-    let z = eqb (text e % 256 ^ (8 - size e)) 0 in
-    let a = both (leb 2 (size e)) (leb (size e) 8 && (plain (e .high) && (plain (e .low) && z))) g in
-    let b = both (leb (size e) 8) (plain (e .high) && (plain (e .low) && z)) (a .1) in
-    let c = both (plain (e .high)) (plain (e .low) && z) (b .1) in
-    let d = both (plain (e .low)) z (c .1) in
-    record { least = leb-true 2 (size e) (a .0); most = leb-true (size e) 8 (b .0); high = plain-small (e .high) (c .0); low = plain-small (e .low) (d .0); ends = eqb-true (text e % 256 ^ (8 - size e)) 0 (d .1) }
 
 -- the digits of a name, moved up again
 module _ (e : Entry) (n : Numbers e) where

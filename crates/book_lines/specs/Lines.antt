@@ -1,5 +1,5 @@
 -- "lines of upper-case hexadecimal, nothing between: name, frame number in eight digits, frame length in" five; "four-digit lines still load as the same names and are written back with five"
-use mathlib.Core.Bool.{Bool, true, false, cond, _&&_}
+use mathlib.Core.Bool.{cond, _&&_}
 use mathlib.Core.List.{List, [], _∷_, _++_}
 use mathlib.Core.Option.{Option, none, some}
 use Prim.Native.Nat.{ℕ, zero, suc, _+_, _*_, _/_, _%_, _-_, _^_, _<_}

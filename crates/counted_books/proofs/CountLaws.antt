@@ -1,20 +1,18 @@
 -- The number in front, and the places behind it.
-use mathlib.Core.Path.{_≡_, refl, sym, ap, _∙_}
-use mathlib.Core.Bool.{Bool, true, false, cond, _&&_}
-use mathlib.Core.List.{List, [], _∷_, _++_}
-use mathlib.Core.Option.{Option, none, some}
-use Prim.Native.Nat.{ℕ, suc, _+_, _*_, _/_, _%_, _-_, _≤_, _<_}
+use mathlib.Core.Path.{_≡_, refl, ap, _∙_}
+use mathlib.Core.Bool.{Bool, cond, _&&_}
+use mathlib.Core.List.{List, [], _∷_}
+use mathlib.Core.Option.{none, some}
+use Prim.Native.Nat.{ℕ, _+_, _*_, _-_, _≤_, _<_}
 use native.Mathlib.Nat.{le-refl}
 use native.Mathlib.Omega.{arith}
-use lib.Dec.{ltb, eqb}
+use lib.Dec.{eqb}
 use lib.ListN.{length, take, drop, getD, set, replicate, length-drop, length-replicate}
 use lib.Seq.{take-all}
 use borrow.Author.Tests.{lt-ltb, le-ltb, eq-eqb, ne-eqb}
-use Rattle.book_entries.specs.declared.Entry.{Entry}
 use Rattle.book_entries.specs.Book.{picture, laid, entries, listed}
 use Rattle.book_entries.proofs.Listed.{zeros-none}
 use Rattle.book_changes.proofs.LaidLaws.{drop-zeros}
-use Rattle.counted_books.specs.declared.Free.{Free}
 use Rattle.counted_books.specs.declared.Free.the-variants.{Places, Refused}
 use Rattle.counted_books.specs.Counted.{high, low, left, shown, held, recounted, emptied, free}
 

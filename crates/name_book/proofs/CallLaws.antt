@@ -1,7 +1,7 @@
 -- Each way through a call is one of the definition.
 use mathlib.Core.Path.{_≡_, refl, sym, ap, _∙_}
-use mathlib.Core.Bool.{Bool, true, false, cond, not}
-use mathlib.Core.List.{List, [], _∷_, _++_, append-nil}
+use mathlib.Core.Bool.{Bool, true, false, cond}
+use mathlib.Core.List.{List, _++_, append-nil}
 use mathlib.Core.Option.{none, some}
 use Prim.Native.Nat.{ℕ, zero, suc, _+_, _*_, _/_, _-_, _≤_, _<_}
 use native.Mathlib.Nat.{le-refl}
@@ -9,16 +9,15 @@ use native.Mathlib.Numerals.{add-one}
 use native.Mathlib.Omega.{arith}
 use lib.ListN.{length, take, drop, getD, length-append, length-drop, drop-of-length-le}
 use lib.Seq.{drop-drop, getD-drop, drop-at, length-take-le}
-use lib.Dec.{ltb}
 use borrow.Author.Tests.{lt-ltb, le-ltb}
 use borrow.Rule.Slice.PartMut.{putMid}
 use Rattle.book_entries.specs.declared.Entry.{Entry}
 use Rattle.book_entries.specs.Entries.{text, size, bytes, good, words, entryAt}
 use Rattle.book_entries.specs.Book.{place, holds, named, numbered, picture, laid, entries, listed}
-use Rattle.book_entries.proofs.Places.{from, next-of, counted}
+use Rattle.book_entries.proofs.Places.{from, next-of}
 use Rattle.book_entries.proofs.Tests.{holds-place}
 use Rattle.book_entries.proofs.Listed.{listing, laid-is}
-use Rattle.book_changes.specs.Changes.{insert, without, vacant}
+use Rattle.book_changes.specs.Changes.{insert, vacant}
 use Rattle.book_changes.proofs.LaidLaws.{laid-insert, laid-without}
 use Rattle.counted_books.specs.Counted.{room, shown, held, recounted}
 use Rattle.counted_books.proofs.CountLaws.{lent, lent-is}

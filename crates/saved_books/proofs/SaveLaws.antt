@@ -1,22 +1,21 @@
 -- The lines of the entries from one place on.
-use mathlib.Core.Path.{_≡_, refl, sym, ap, _∙_}
-use mathlib.Core.Bool.{Bool, true, false, cond, _&&_}
-use mathlib.Core.List.{List, [], _∷_, _++_, append-nil}
+use mathlib.Core.Path.{_≡_, sym, ap, _∙_}
+use mathlib.Core.Bool.{true}
+use mathlib.Core.List.{List, [], _∷_, append-nil}
 use mathlib.Core.Option.{none, some}
-use Prim.Native.Nat.{ℕ, _+_, _*_, _-_, _^_, _%_, _≤_, _<_}
+use Prim.Native.Nat.{ℕ, _+_, _*_, _-_, _≤_, _<_}
 use native.Mathlib.Nat.{zero-add}
 use native.Mathlib.Omega.{arith}
-use lib.Dec.{leb, eqb}
-use lib.ListN.{length, take, drop, length-append, take-append-drop}
-use borrow.Author.Tests.{leb-true, le-leb, lt-leb}
+use lib.ListN.{length, take, length-append, take-append-drop}
+use borrow.Author.Tests.{le-leb, lt-leb}
 use Rattle.book_entries.specs.declared.Entry.{Entry}
-use Rattle.book_entries.specs.Entries.{text, size, good, plain, entryAt}
+use Rattle.book_entries.specs.Entries.{size, good, entryAt}
 use Rattle.book_entries.specs.Book.{orderly, entries}
 use Rattle.book_entries.proofs.Places.{from, next-of, last}
-use Rattle.book_entries.proofs.Tests.{both}
+use Rattle.book_entries.proofs.GoodEntries.{numbers}
 use Rattle.book_changes.proofs.Orderly.{first-fair, others}
 use Rattle.book_lines.specs.Lines.{line, saved, put}
-use Rattle.book_lines.proofs.LineLaws.{line-length, put-length, put-put}
+use Rattle.book_lines.proofs.LineLaws.{line-length, put-put}
 use Rattle.counted_books.specs.Counted.{held}
 use Rattle.counted_books.proofs.CountLaws.{lent}
 use Rattle.counted_books.proofs.Held.{holding}
@@ -26,19 +25,12 @@ use Rattle.saved_books.specs.declared.Saved.{Saved}
 use Rattle.saved_books.specs.declared.Saved.the-variants.{Wrote, Refused}
 use Rattle.saved_books.specs.Saves.{settled, save}
 
-pub good-size : (e : Entry) → good e ≡ true → (2 ≤ size e) × (size e ≤ 8)
-unfolding good
-good-size e g =
-    let a = both (leb 2 (size e)) (leb (size e) 8 && (plain (e .high) && (plain (e .low) && eqb (text e % 256 ^ (8 - size e)) 0))) g in
-    let b = both (leb (size e) 8) (plain (e .high) && (plain (e .low) && eqb (text e % 256 ^ (8 - size e)) 0)) (a .1) in
-    (leb-true 2 (size e) (a .0), leb-true (size e) 8 (b .0))
-
 module _ (w : List ℕ) (i : ℕ) (p : i < length (entries w)) (o : orderly (from w i) ≡ true) where
   split : orderly (entryAt w i ∷ from w (i + 1)) ≡ true
   split = rw (next-of w i p) at o
 
   pub next-size : (2 ≤ size (entryAt w i)) × (size (entryAt w i) ≤ 8)
-  next-size = good-size (entryAt w i) (first-fair (entryAt w i) (from w (i + 1)) split .good)
+  next-size = let n = numbers (entryAt w i) (first-fair (entryAt w i) (from w (i + 1)) split .good) in (n .least, n .most)
 
   pub next-orderly : orderly (from w (i + 1)) ≡ true
   next-orderly = others (entryAt w i) (from w (i + 1)) split

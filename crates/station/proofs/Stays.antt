@@ -1,8 +1,8 @@
 -- "No call of one station alters a binding of the other": what is held stays, after any calls of any stations.
-use mathlib.Core.Path.{_≡_, refl, sym, ap, _∙_}
-use mathlib.Core.Bool.{Bool, true, false, cond, not, _&&_, _||_}
+use mathlib.Core.Path.{_≡_, refl, _∙_}
+use mathlib.Core.Bool.{Bool, true, false, cond, not, _||_}
 use mathlib.Core.List.{List, [], _∷_}
-use mathlib.Core.Option.{none, some}
+use mathlib.Core.Option.{some}
 use Prim.Native.Nat.{ℕ, _*_, _/_, _-_}
 use lib.Dec.{leb, ltb, eqb}
 use lib.ListN.{length}
@@ -11,7 +11,6 @@ use Rattle.book_entries.specs.Entries.{good}
 use Rattle.book_entries.specs.Book.{holds, numbered}
 use Rattle.counted_books.specs.Counted.{held}
 use Rattle.counted_books.proofs.Held.{holding}
-use Rattle.book_changes.specs.Changes.{insert}
 use Rattle.book_changes.proofs.Orderly.{alike, holds-insert}
 use Rattle.name_book.specs.Calls as book
 use Rattle.name_book.specs.Calls.{add}

@@ -1,6 +1,6 @@
 -- Each way through the code is one of the definition. What is known after each test is said once.
 use mathlib.Core.Path.{_≡_, sym, ap, _∙_}
-use mathlib.Core.Bool.{true, not}
+use mathlib.Core.Bool.{true}
 use mathlib.Core.List.{[]}
 use mathlib.Core.Option.{some}
 use Prim.Native.Nat.{ℕ}

@@ -1,5 +1,4 @@
 -- Each way through the code is one of the definition.
-use mathlib.Core.Path.{_≡_}
 use borrow.Author.Needs.{needs}
 use Rattle.book_entries.specs.Book.{numbered, entries}
 use Rattle.name_book.proofs.CallLaws.{absent, withdraw-absent, withdraw-gone}

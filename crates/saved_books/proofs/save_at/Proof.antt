@@ -1,5 +1,4 @@
 -- Each way through the code is one of the definition.
-use mathlib.Core.Path.{_≡_}
 use native.Mathlib.Omega.{arith}
 use borrow.Author.Needs.{needs}
 use Rattle.book_entries.specs.Book.{entries}
