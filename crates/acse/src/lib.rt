@@ -6,7 +6,7 @@ use answers::Answer;
 mod telling; // telling.rt: its records, in lent words
 
 // The bytes of the longest frame.
-const LONGEST: usize = 8192;
+const LONGEST: usize = 65536;
 
 pub fn parse_acse_apdu(frame: &[u8], words: &mut [u64]) -> Answer
     ensures { λ r. ⌜ Says r (now (words .exit)) (parse-acse-apdu (now (frame .entry)) (now (words .entry))) ⌝ }

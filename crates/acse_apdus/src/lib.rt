@@ -48,7 +48,7 @@ fn heard(pdu: u64, second: u64, body: Body) -> Apdu
 }
 
 pub fn read_apdu(s: &[u8]) -> Apdu
-    requires { ⌜ length (now s) ≤ 8192 ⌝ }
+    requires { ⌜ length (now s) ≤ 65536 ⌝ }
     ensures { λ r. ⌜ Hears (now (s .entry)) r ⌝ }
 {
     let start = Cursor {

@@ -15,7 +15,7 @@ extern "C" {
 #endif
 
 struct adjagosk_numbers {
-    uint64_t refused; /* 0: accepted; 1 frame over 8,192 bytes, 2 a table of 0 or over 256 entries, 3 direction over 1,
+    uint64_t refused; /* 0: accepted; 1 frame over 65,536 bytes, 2 a table of 0 or over 256 entries, 3 direction over 1,
                          4 ran out, 5 badly formed, 6 an item that is not supplied, 7 too few words */
     bool cut;         /* the frame ended where the reading carries on without the missing part */
     size_t reach;     /* the bits of the frame that the answer rests on */

@@ -145,7 +145,7 @@ module _ (ts : List Test) (F : List ℕ → Reply) (keeps : Keeps F) where
       let n : length (take j s) ≡ j = length-take j s ∙ omega arith in
       let a : Agree (bitOf s) (bitOf (take j s)) (length (take j s) * 8) = λ q u. bitOf-agree s (take j s) j (λ d e. sym (getD-take j s d 0 e)) q (omega arith) in
       let o : closed (F (take j s)) ≡ false = keeps .short s (take j s) (rw i) (rw i (omega arith)) a in
-      let f : leb (length (take j s)) 8192 ≡ true = le-leb (length (take j s)) 8192 (omega (arith, leb-true (length s) 8192 (x .0))) in
+      let f : leb (length (take j s)) 65536 ≡ true = le-leb (length (take j s)) 65536 (omega (arith, leb-true (length s) 65536 (x .0))) in
       rw (entered (take j s) v f (x .1)) (open-outcome (F (take j s)) v o g)
 
   -- the lent words keep their number

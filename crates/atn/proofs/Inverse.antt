@@ -266,4 +266,4 @@ module _ (b : ℕ → ℕ) (bit : (i : ℕ) → b i < 2) where
 
   pub length-inv : (e at : ℕ) (k : ℕ → ℕ → Ans) {p : ℕ} {R : List Rec} → lengthThen b e at k ≡ ok p R 0 → Length e at k (ok p R 0)
   unfolding lengthThen
-  length-inv e at k h = lengths-inv 8193 e at k h
+  length-inv e at k h = lengths-inv 65537 e at k h

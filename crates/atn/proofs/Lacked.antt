@@ -214,7 +214,7 @@ module _ (b c : ℕ → ℕ) (e u : ℕ) (ag : Agree b c e) (le : e ≤ u) where
 
   grow-length : (at : ℕ) (k k′ : ℕ → ℕ → Ans) → Rises k′ → ((n q : ℕ) → q ≤ e → Grows e u (k n q) (k′ n q)) → Grows e u (lengthThen b e at k) (lengthThen c u at k′)
   unfolding lengthThen
-  grow-length at k k′ mo h = grow-lengths 8193 at k k′ mo h
+  grow-length at k k′ mo h = grow-lengths 65537 at k k′ mo h
 
   -- so many bits, passed over
   grow-span : (at n : ℕ) (k k′ : ℕ → Ans) → ((v : ℕ) → reach (k′ v) ≡ at + n) → ((v : ℕ) → Grows e u (k v) (k′ v)) → Grows e u (pull b e at n k) (pull c u at n k′)

@@ -173,7 +173,7 @@ module _ (b : ℕ → ℕ) (e : ℕ) where
 
   pub mono-length : (at : ℕ) (k : ℕ → ℕ → Ans) → Rises k → at ≤ reach (lengthThen b e at k)
   unfolding lengthThen
-  mono-length at k h = mono-lengths 8193 at k h
+  mono-length at k h = mono-lengths 65537 at k h
 
 mutual
   unfolding read reach
@@ -278,12 +278,12 @@ mutual
   in-window b (name t hi) x e at h = in-pull b e at _ _ h λ v l. in-guard e _ _ _ _ l l
   in-window b (text t n c lo hi) x e at h = in-sized b e at lo hi _ h λ k q l. in-letters b e (width (n - 1)) n k q _ l λ p y. y
   in-window b (span t w lo hi) x e at h = in-sized b e at lo hi _ h λ k q l. in-pull b e q (k * w) _ l λ _ y. y
-  in-window b (anySpan t w) x e at h = in-length b e 8193 at _ h λ k q l. in-pull b e q (k * w) _ l λ _ y. y
-  in-window b (skipped m) x e at h = in-then e _ _ h (λ p l. in-length b e 8193 p _ l λ k q y. in-pull b e q (k * 8) _ y λ _ z. z)
+  in-window b (anySpan t w) x e at h = in-length b e 65537 at _ h λ k q l. in-pull b e q (k * w) _ l λ _ y. y
+  in-window b (skipped m) x e at h = in-then e _ _ h (λ p l. in-length b e 65537 p _ l λ k q y. in-pull b e q (k * 8) _ y λ _ z. z)
   in-window b (small m t) x e at h =
       in-then e _ _ h (λ p l.
       in-pull b e p 1 _ l λ y l₁.
-      in-fork e y _ _ (in-pull b e (p + 1) 6 _ l₁ λ v l₂. omega arith) (in-length b e 8193 (p + 1) _ l₁ λ k q y. in-pull b e q (k * 8) _ y λ _ z. z))
+      in-fork e y _ _ (in-pull b e (p + 1) 6 _ l₁ λ v l₂. omega arith) (in-length b e 65537 (p + 1) _ l₁ λ k q y. in-pull b e q (k * 8) _ y λ _ z. z))
   in-window b null x e at h = h
   in-window b (noted t v s f) x e at h = in-then e _ _ h (λ p l. in-window b f x e p l)
   in-window b (placed t f) x e at h = in-then e _ _ h (λ p l. in-window b f x e p l)
@@ -296,7 +296,7 @@ mutual
       in-fetch b e at (flags fs) _ _ (omega (arith, late-is 1 [] (unreadMarks fs (within b e) at) (readFields fs x (within b e) e at (at + (e - at))) .0, in-windowFields (within b e) fs x e at (at + (e - at)) (omega arith))) λ _ l. in-then e _ _ l (λ p y. in-windowFields b fs x e at p y)
   in-window b (choice t fs) x e at h = in-pull b e at _ _ h λ i l. in-then e _ _ l (λ q y. in-windowChoice b fs i x e q y)
   in-window b (many lo hi f) x e at h = in-sized b e at lo hi _ h λ k q l. in-times e _ (λ i p y. in-window b f (x .0, i) e p y) 1 k q l
-  in-window b (inner f) x e at h = in-length b e 8193 at _ h λ k q l. in-pull b e q k _ l λ _ y. omega (arith, close-is (q + k) (read f x b (q + k) q))
+  in-window b (inner f) x e at h = in-length b e 65537 at _ h λ k q l. in-pull b e q k _ l λ _ y. omega (arith, close-is (q + k) (read f x b (q + k) q))
   in-window b (soft m r f) x e at h = omega (arith, soft-is m r (read f x b e at) .0, in-window b f x e at h)
   in-window b (lax m j f) x e at h = omega (arith, lax-is m j (read f x b e at) .0, in-window b f x e at h)
 

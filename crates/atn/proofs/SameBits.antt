@@ -100,10 +100,10 @@ module _ (b c : ℕ → ℕ) where
     same (name t hi) x e at h = pull-same e h at _ λ v _. refl
     same (text t n y lo hi) x e at h = let w : ℕ = width (n - 1) in sized-same e h at lo hi λ k q l. letters-same e h w n k q _ _ (λ u. ap (λ (cs : List ℕ). ok (q + k * w) (lettered t y (x .0) cs) 0) (same-units w q k (agree-le h u))) l
     same (span t w lo hi) x e at h = sized-same e h at lo hi λ k q _. pull-same e h q (k * w) λ _ _. refl
-    same (anySpan t w) x e at h = length-same e h 8193 at λ k q. pull-same e h q (k * w) λ _ _. refl
-    same (skipped m) x e at h = then-same refl (λ p. length-same e h 8193 p λ k q. pull-same e h q (k * 8) λ _ _. refl)
+    same (anySpan t w) x e at h = length-same e h 65537 at λ k q. pull-same e h q (k * w) λ _ _. refl
+    same (skipped m) x e at h = then-same refl (λ p. length-same e h 65537 p λ k q. pull-same e h q (k * 8) λ _ _. refl)
     same (small m t) x e at h =
-        then-same refl (λ p. pull-same e h p 1 λ y _. fork-same y (pull-same e h (p + 1) 6 λ v _. refl) (length-same e h 8193 (p + 1) λ k q. pull-same e h q (k * 8) λ _ _. refl))
+        then-same refl (λ p. pull-same e h p 1 λ y _. fork-same y (pull-same e h (p + 1) 6 λ v _. refl) (length-same e h 65537 (p + 1) λ k q. pull-same e h q (k * 8) λ _ _. refl))
     same null x e at h = refl
     same (noted t v s f) x e at h = then-same refl (λ p. same f x e p h)
     same (placed t f) x e at h = then-same refl (λ p. same f x e p h)
@@ -118,7 +118,7 @@ module _ (b c : ℕ → ℕ) where
         (ap (λ (y : ℕ → ℕ). late 1 [] (unreadMarks fs y at) (readFields fs x y e at (at + (e - at)))) (within-same e h))
     same (choice t fs) x e at h = pull-same e h at _ λ i _. then-same refl (λ q. sameChoice fs i x e q h)
     same (many lo hi f) x e at h = sized-same e h at lo hi λ k q _. ap (λ (r : ℕ → ℕ → Ans). times r 1 k q) (fun-ext λ i. fun-ext λ p. same f (x .0, i) e p h)
-    same (inner f) x e at h = length-same e h 8193 at λ k q. pull-same e h q k λ _ u. ap (close (q + k)) (same f x (q + k) q (agree-le h u))
+    same (inner f) x e at h = length-same e h 65537 at λ k q. pull-same e h q k λ _ u. ap (close (q + k)) (same f x (q + k) q (agree-le h u))
     same (soft m r f) x e at h = ap (softly m r) (same f x e at h)
     same (lax m j f) x e at h = ap (laxly m j) (same f x e at h)
 

@@ -229,12 +229,12 @@ mutual
       letters-moved b c a L h e l w n k q _ _ (λ u. ap (λ (cs : List ℕ). ok (a + (q + k * w)) (lettered t y (x .0) cs) 0) (sym (units-moved b c a L h w q k (omega arith)))) i
   shift b c a L h (span t w lo hi) x e at z l = never z
   shift b c a L h (anySpan t w) x e at z l = never z
-  shift b c a L h (skipped m) x e at z l = ok-moved a at [] _ _ _ refl (λ p. length-moved b c a L h e l 8193 p _ _ λ k q. pull-moved b c a L h e l q (k * 8) _ _ λ _ _. rw (add-assoc a q (k * 8)))
+  shift b c a L h (skipped m) x e at z l = ok-moved a at [] _ _ _ refl (λ p. length-moved b c a L h e l 65537 p _ _ λ k q. pull-moved b c a L h e l q (k * 8) _ _ λ _ _. rw (add-assoc a q (k * 8)))
   shift b c a L h (small m t) x e at z l =
       ok-moved a at [] _ _ _ refl (λ p.
       pull-moved b c a L h e l p 1 _ _ λ y _.
       fork-moved a y _ _ (rw (add-assoc a p 1, add-assoc a p 7) (pull-moved b c a L h e l (p + 1) 6 _ _ λ v _. refl))
-      (rw (add-assoc a p 1) (length-moved b c a L h e l 8193 (p + 1) _ _ λ k q. pull-moved b c a L h e l q (k * 8) _ _ λ _ _. rw (add-assoc a q (k * 8)))))
+      (rw (add-assoc a p 1) (length-moved b c a L h e l 65537 (p + 1) _ _ λ k q. pull-moved b c a L h e l q (k * 8) _ _ λ _ _. rw (add-assoc a q (k * 8)))))
   shift b c a L h null x e at z l = refl
   shift b c a L h (noted t v s f) x e at z l = ok-moved a at _ 0 _ _ refl (λ p. shift b c a L h f x e p z l)
   shift b c a L h (placed t f) x e at z l = ok-moved a at _ 0 _ _ refl (λ p. shift b c a L h f x e p z l)
@@ -263,7 +263,7 @@ mutual
   shift b c a L h (choice t fs) x e at z l = pull-moved b c a L h e l at _ _ _ λ v _. ok-moved a _ _ 0 _ _ (add-assoc a at _) (λ p. shiftChoice b c a L h fs v x e p z l)
   shift b c a L h (many lo hi f) x e at z l = sized-moved b c a L h e l at lo hi _ _ λ k q _. times-moved a _ _ (λ i p. shift b c a L h f (x .0, i) e p z l) 1 k q
   shift b c a L h (inner f) x e at z l =
-      length-moved b c a L h e l 8193 at _ _ λ k q.
+      length-moved b c a L h e l 65537 at _ _ λ k q.
       pull-moved b c a L h e l q k _ _ λ _ u.
       rw (add-assoc a q k) (ap (close (a + (q + k))) (shift b c a L h f x (q + k) q z (omega arith)) ∙ moved-close a (q + k) (read f x b (q + k) q))
   shift b c a L h (soft m r f) x e at z l = rw (shift b c a L h f x e at z l) (moved-soft a m r (read f x b e at))

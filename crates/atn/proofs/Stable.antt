@@ -164,7 +164,7 @@ module _ (b c : ℕ → ℕ) (e u : ℕ) where
 
   rel-length : (at : ℕ) (k k′ : ℕ → ℕ → Ans) → Rises k → ((n q : ℕ) → q ≤ u → Becomes b c u (k n q) (k′ n q)) → at ≤ u → Becomes b c u (lengthThen b e at k) (lengthThen c u at k′)
   unfolding lengthThen
-  rel-length at k k′ mo h l = rel-lengths 8193 at k k′ mo h l
+  rel-length at k k′ mo h l = rel-lengths 65537 at k k′ mo h l
 
   -- so many bits, passed over as a span
   rel-span : (at n : ℕ) (R : List Rec) → Becomes b c u (pull b e at n (λ _. ok (at + n) R 0)) (pull c u at n (λ _. ok (at + n) R 0))

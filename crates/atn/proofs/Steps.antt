@@ -121,7 +121,7 @@ module _ (b : ℕ → ℕ) (e at n g : ℕ) (k : ℕ → ℕ → Ans) where
 
 pub length-go : (b : ℕ → ℕ) (e at n : ℕ) (k : ℕ → ℕ → Ans) → n < 16384 → Spells b at (lengthBits n) → at + length (lengthBits n) ≤ e → lengthThen b e at k ≡ k n (at + length (lengthBits n))
 unfolding lengthBits lengthThen
-length-go b e at n k h s l = length-in b e at n 8192 k (ltb n 128) refl h s l
+length-go b e at n k h s l = length-in b e at n 65536 k (ltb n 128) refl h s l
 
 ---------------------------------------------------------------- parts
 

@@ -131,7 +131,7 @@ module _ (kind : Kind) (P : Ans → Type 0) (keeps : Keeps kind P) where
 
     tame-length : (at : ℕ) (k : ℕ → ℕ → Ans) → ((n q : ℕ) → P (k n q)) → P (lengthThen b e at k)
     unfolding lengthThen
-    tame-length at k h = tame-lengths 8193 at k h
+    tame-length at k h = tame-lengths 65537 at k h
 
   ---------------------------------------------------------------- formats
 

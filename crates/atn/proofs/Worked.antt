@@ -162,12 +162,12 @@ all-ran-out = refl
 pub tested-first : List Row
 tested-first =
     -- 1, 2, 3 are tested in that order
-    zeros 8193 0 257 2 gives refuses 1 0
+    zeros 65537 0 257 2 gives refuses 1 0
     ∷ zeros 1 0 256 2 gives refuses 2 0
     ∷ zeros 1 1 257 2 gives refuses 2 0
     ∷ zeros 1 1 256 2 gives refuses 3 0
     -- and at the limits the reading decides: abort reason 0
-    ∷ zeros 8192 1 256 0 gives whole 8 0
+    ∷ zeros 65536 1 256 0 gives whole 8 0
     ∷ zeros 2 256 1 1 gives whole 9 0
     ∷ []
 

@@ -81,7 +81,7 @@ settle (unsupplied p) w = (refused 6 p 0 0, w)
 ---------------------------------------------------------------- what is tested before anything is read
 
 unfoldable pub frame-fits : List ℕ → Bool
-frame-fits s = leb (length s) 8192
+frame-fits s = leb (length s) 65536
 
 unfoldable pub table-fits : List ℕ → Bool
 table-fits t = leb 1 (length t) && leb (length t) 256

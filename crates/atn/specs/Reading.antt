@@ -168,9 +168,9 @@ lengths zero b e at k = stop bad at [] 0
 lengths (suc g) b e at k =
     pull b e at 1 λ x. fork x (short b e at k) (pull b e (at + 1) 1 λ y. fork y (long b e at k) (fragment b e at λ m q. lengths g b e q λ n p. k (m * 16384 + n) p))
 
--- no frame of 8,192 bytes has more lengths in a row
+-- no frame of 65,536 bytes has more lengths in a row
 unfoldable pub lengthThen : (ℕ → ℕ) → ℕ → ℕ → (ℕ → ℕ → Ans) → Ans
-lengthThen b e at k = lengths 8193 b e at k
+lengthThen b e at k = lengths 65537 b e at k
 
 ---------------------------------------------------------------- sequences
 

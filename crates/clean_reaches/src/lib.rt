@@ -24,7 +24,7 @@ pub enum Reach {
 }
 
 pub fn clean_reach(kind: Kind, direction: u64, down: &[u8], up: &[u8], frame: &[u8]) -> Reach
-    requires { ⌜ (length (now frame) ≤ 8192) × (1 ≤ length (now down)) × (length (now down) ≤ 256) × (1 ≤ length (now up)) × (length (now up) ≤ 256) × (direction ≤ 1) ⌝ }
+    requires { ⌜ (length (now frame) ≤ 65536) × (1 ≤ length (now down)) × (length (now down) ≤ 256) × (1 ≤ length (now up)) × (length (now up) ≤ 256) × (direction ≤ 1) ⌝ }
     ensures { λ r. ⌜ reachOf r ≡ cleanReach (readFrame (formatOf kind direction (now (down .entry)) (now (up .entry))) (now (frame .entry))) ⌝ }
 {
     match kind {
@@ -35,7 +35,7 @@ pub fn clean_reach(kind: Kind, direction: u64, down: &[u8], up: &[u8], frame: &[
 }
 
 fn cpdlc_reach(direction: u64, down: &[u8], up: &[u8], frame: &[u8]) -> Reach
-    requires { ⌜ (length (now frame) ≤ 8192) × (1 ≤ length (now down)) × (length (now down) ≤ 256) × (1 ≤ length (now up)) × (length (now up) ≤ 256) × (direction ≤ 1) ⌝ }
+    requires { ⌜ (length (now frame) ≤ 65536) × (1 ≤ length (now down)) × (length (now down) ≤ 256) × (1 ≤ length (now up)) × (length (now up) ≤ 256) × (direction ≤ 1) ⌝ }
     ensures { λ r. ⌜ reachOf r ≡ cleanReach (readFrame (pdus direction (now (down .entry)) (now (up .entry))) (now (frame .entry))) ⌝ }
 {
     let mut spare = [0u64; 1];
@@ -47,7 +47,7 @@ fn cpdlc_reach(direction: u64, down: &[u8], up: &[u8], frame: &[u8]) -> Reach
 }
 
 fn cm_reach(ground: bool, frame: &[u8]) -> Reach
-    requires { ⌜ length (now frame) ≤ 8192 ⌝ }
+    requires { ⌜ length (now frame) ≤ 65536 ⌝ }
     ensures { λ r. ⌜ reachOf r ≡ cleanReach (readFrame (pduOf ground) (now (frame .entry))) ⌝ }
 {
     let start = Cursor {
@@ -67,7 +67,7 @@ fn cm_reach(ground: bool, frame: &[u8]) -> Reach
 }
 
 fn acse_reach(frame: &[u8]) -> Reach
-    requires { ⌜ length (now frame) ≤ 8192 ⌝ }
+    requires { ⌜ length (now frame) ≤ 65536 ⌝ }
     ensures { λ r. ⌜ reachOf r ≡ cleanReach (readFrame acse (now (frame .entry))) ⌝ }
 {
     let apdu = read_apdu(frame);

@@ -11,14 +11,14 @@ use Rattle.cm_pdus.specs.Pdus.{pduOf}
 use Rattle.cm_pdus.proofs.Sides.{by-direction}
 
 module _ (s : List ℕ) (d : ℕ) (w : List ℕ) where
-  pub cm-long : 8192 < length s → _≡_ {A = Outcome} (refused 1 0 0 0, w) (parse-cm s d w)
+  pub cm-long : 65536 < length s → _≡_ {A = Outcome} (refused 1 0 0 0, w) (parse-cm s d w)
   unfolding parse-cm
   cm-long h = enter-long (cm-tests d) _ s w h
 
-  pub cm-direction : length s ≤ 8192 → 1 < d → _≡_ {A = Outcome} (refused 3 0 0 0, w) (parse-cm s d w)
+  pub cm-direction : length s ≤ 65536 → 1 < d → _≡_ {A = Outcome} (refused 3 0 0 0, w) (parse-cm s d w)
   unfolding parse-cm decide direction-fits
   cm-direction h l = enter-tests (cm-tests d) _ s w h (rw (lt-leb d 1 l))
 
-  pub cm-reads : {o : Outcome} → length s ≤ 8192 → d ≤ 1 → o ≡ settle (readFrame (pduOf (eqb d 1)) s) w → o ≡ parse-cm s d w
+  pub cm-reads : {o : Outcome} → length s ≤ 65536 → d ≤ 1 → o ≡ settle (readFrame (pduOf (eqb d 1)) s) w → o ≡ parse-cm s d w
   unfolding parse-cm decide direction-fits
   cm-reads h l e = enter-tests (cm-tests d) _ s w h (e ∙ rw (by-direction d l, le-leb d 1 l))

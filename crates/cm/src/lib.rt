@@ -16,7 +16,7 @@ use spare_words::CM_SPARE;
 use spare_words::copy;
 
 // The bytes of the longest frame.
-const LONGEST: usize = 8192;
+const LONGEST: usize = 65536;
 
 // Direction 0 is the aircraft's message, 1 the ground's.
 pub fn parse_cm(frame: &[u8], direction: u64, words: &mut [u64]) -> Answer
@@ -33,7 +33,7 @@ pub fn parse_cm(frame: &[u8], direction: u64, words: &mut [u64]) -> Answer
 
 // The reading decides before its records are written.
 fn answer(frame: &[u8], words: &mut [u64], ground: bool) -> Answer
-    requires { ⌜ length (now frame) ≤ 8192 ⌝ }
+    requires { ⌜ length (now frame) ≤ 65536 ⌝ }
     ensures { λ r. ⌜ Says r (now (words .exit)) (settle (readFrame (pduOf ground) (now (frame .entry))) (now (words .entry))) ⌝ }
 {
     let start = Cursor {

@@ -16,32 +16,32 @@ use Rattle.verdicts.specs.Verdicts.{verdictOf}
 ---------------------------------------------------------------- the tests
 
 module _ (s : List ℕ) (d : ℕ) (down up w : List ℕ) where
-  pub pdus-long : 8192 < length s → _≡_ {A = Outcome} (refused 1 0 0 0, w) (parse-pdus s d down up w)
+  pub pdus-long : 65536 < length s → _≡_ {A = Outcome} (refused 1 0 0 0, w) (parse-pdus s d down up w)
   unfolding parse-pdus
   pdus-long h = enter-long (pdus-tests d down up) _ s w h
 
-  pub pdus-tables : length s ≤ 8192 → (table-fits down && table-fits up) ≡ false → _≡_ {A = Outcome} (refused 2 0 0 0, w) (parse-pdus s d down up w)
+  pub pdus-tables : length s ≤ 65536 → (table-fits down && table-fits up) ≡ false → _≡_ {A = Outcome} (refused 2 0 0 0, w) (parse-pdus s d down up w)
   unfolding parse-pdus decide
   pdus-tables h t = enter-tests (pdus-tests d down up) _ s w h (rw t)
 
-  pub pdus-direction : length s ≤ 8192 → (table-fits down && table-fits up) ≡ true → 1 < d → _≡_ {A = Outcome} (refused 3 0 0 0, w) (parse-pdus s d down up w)
+  pub pdus-direction : length s ≤ 65536 → (table-fits down && table-fits up) ≡ true → 1 < d → _≡_ {A = Outcome} (refused 3 0 0 0, w) (parse-pdus s d down up w)
   unfolding parse-pdus decide direction-fits
   pdus-direction h t l = enter-tests (pdus-tests d down up) _ s w h (rw (t, lt-leb d 1 l))
 
-  pub pdus-reads : {o : Outcome} → length s ≤ 8192 → (table-fits down && table-fits up) ≡ true → d ≤ 1 → o ≡ settle (readFrame (pdus d down up) s) w → o ≡ parse-pdus s d down up w
+  pub pdus-reads : {o : Outcome} → length s ≤ 65536 → (table-fits down && table-fits up) ≡ true → d ≤ 1 → o ≡ settle (readFrame (pdus d down up) s) w → o ≡ parse-pdus s d down up w
   unfolding parse-pdus decide direction-fits
   pdus-reads h t l e = enter-tests (pdus-tests d down up) _ s w h (e ∙ rw (t, le-leb d 1 l))
 
 module _ (s down up w : List ℕ) where
-  pub apdu-long : 8192 < length s → _≡_ {A = Outcome} (refused 1 0 0 0, w) (parse-apdu s down up w)
+  pub apdu-long : 65536 < length s → _≡_ {A = Outcome} (refused 1 0 0 0, w) (parse-apdu s down up w)
   unfolding parse-apdu
   apdu-long h = enter-long (apdu-tests down up) _ s w h
 
-  pub apdu-tables : length s ≤ 8192 → (table-fits down && table-fits up) ≡ false → _≡_ {A = Outcome} (refused 2 0 0 0, w) (parse-apdu s down up w)
+  pub apdu-tables : length s ≤ 65536 → (table-fits down && table-fits up) ≡ false → _≡_ {A = Outcome} (refused 2 0 0 0, w) (parse-apdu s down up w)
   unfolding parse-apdu decide
   apdu-tables h t = enter-tests (apdu-tests down up) _ s w h (rw t)
 
-  pub apdu-reads : {o : Outcome} → length s ≤ 8192 → (table-fits down && table-fits up) ≡ true → o ≡ settle (orElse (readFrame (pdus 0 down up) s) (readFrame (pdus 1 down up) s)) w → o ≡ parse-apdu s down up w
+  pub apdu-reads : {o : Outcome} → length s ≤ 65536 → (table-fits down && table-fits up) ≡ true → o ≡ settle (orElse (readFrame (pdus 0 down up) s) (readFrame (pdus 1 down up) s)) w → o ≡ parse-apdu s down up w
   unfolding parse-apdu decide pdus
   apdu-reads h t e = enter-tests (apdu-tests down up) _ s w h (e ∙ rw t)
 

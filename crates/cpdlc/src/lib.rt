@@ -13,7 +13,7 @@ use verdicts::after_bad;
 use verdicts::after_out;
 
 // The bytes of the longest frame.
-const LONGEST: usize = 8192;
+const LONGEST: usize = 65536;
 
 // A frame of a known direction: 0 is the downlink, 1 the uplink.
 pub fn parse_pdus(frame: &[u8], direction: u64, down: &[u8], up: &[u8], words: &mut [u64]) -> Answer

@@ -16,7 +16,7 @@ use verdicts::Verdict;
 
 // The window is the whole frame.
 fn start(frame: &[u8]) -> Cursor
-    requires { ⌜ length (now frame) ≤ 8192 ⌝ }
+    requires { ⌜ length (now frame) ≤ 65536 ⌝ }
     ensures { λ r. ⌜ r ≡ record { at = 0; end = length (now (frame .entry)) * 8; why = 0; marks = 0 } ⌝ }
 {
     Cursor {
@@ -29,7 +29,7 @@ fn start(frame: &[u8]) -> Cursor
 
 // The reading into spare words: it counts the records, and keeps them if they fit.
 pub fn try_frame(frame: &[u8], spare: &mut [u64], direction: u64, down: &[u8], up: &[u8]) -> Verdict
-    requires { ⌜ (length (now frame) ≤ 8192) × (1 ≤ length (now down)) × (length (now down) ≤ 256) × (1 ≤ length (now up)) × (length (now up) ≤ 256) × (direction ≤ 1) ⌝ }
+    requires { ⌜ (length (now frame) ≤ 65536) × (1 ≤ length (now down)) × (length (now down) ≤ 256) × (1 ≤ length (now up)) × (length (now up) ≤ 256) × (direction ≤ 1) ⌝ }
     ensures { λ r. ⌜ Tried (readFrame (pdus direction (now (down .entry)) (now (up .entry))) (now (frame .entry))) r (now (spare .exit)) ⌝ }
 {
     let x = read_pdu(frame, spare, 0, start(frame), direction, down, up);
@@ -73,7 +73,7 @@ fn write_frame(
     cut: bool,
     v: Verdict,
 ) -> Answer
-    requires { ⌜ (length (now frame) ≤ 8192) × (1 ≤ length (now down)) × (length (now down) ≤ 256) × (1 ≤ length (now up)) × (length (now up) ≤ 256) × (direction ≤ 1) × (v .count < 2 ^ 32) ⌝ }
+    requires { ⌜ (length (now frame) ≤ 65536) × (1 ≤ length (now down)) × (length (now down) ≤ 256) × (1 ≤ length (now up)) × (length (now up) ≤ 256) × (direction ≤ 1) × (v .count < 2 ^ 32) ⌝ }
     ensures { λ r. ⌜ (Kept (readFrame (pdus direction (now (down .entry)) (now (up .entry))) (now (frame .entry))) (now (spare .entry)) → (R : List Rec) → v .count ≡ length R → Tells R (readFrame (pdus direction (now (down .entry)) (now (up .entry))) (now (frame .entry))) → Says r (now (words .exit)) (settle (accept cut (v .reach) (v .marks) R) (now (words .entry)))) ⌝ }
 {
     let need = words_for(v.count);
@@ -122,7 +122,7 @@ pub fn answer_frame(
     up: &[u8],
     v: Verdict,
 ) -> Answer
-    requires { ⌜ (length (now frame) ≤ 8192) × (1 ≤ length (now down)) × (length (now down) ≤ 256) × (1 ≤ length (now up)) × (length (now up) ≤ 256) × (direction ≤ 1) × (v .count < 2 ^ 32) ⌝ }
+    requires { ⌜ (length (now frame) ≤ 65536) × (1 ≤ length (now down)) × (length (now down) ≤ 256) × (1 ≤ length (now up)) × (length (now up) ≤ 256) × (direction ≤ 1) × (v .count < 2 ^ 32) ⌝ }
     ensures { λ r. ⌜ (Kept (readFrame (pdus direction (now (down .entry)) (now (up .entry))) (now (frame .entry))) (now (spare .entry)) → (u : Reply) → v ≡ verdictOf u → Follows u (readFrame (pdus direction (now (down .entry)) (now (up .entry))) (now (frame .entry))) → Says r (now (words .exit)) (settle u (now (words .entry)))) ⌝ }
 {
     if v.why == 0 {

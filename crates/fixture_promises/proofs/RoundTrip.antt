@@ -85,5 +85,5 @@ written-read k d down up W s out {n} {out′} h =
       clean = r .clean ∙ ap (λ (z : ℕ). accept false z 0 (r .recs)) (sym (a .count));
       same = r .same;
       within = r .within;
-      limit = λ l. le-leb (length (bytesOf B)) 8192 (omega (arith, bytes-length B));
+      limit = λ l. le-leb (length (bytesOf B)) 65536 (omega (arith, bytes-length B));
     }

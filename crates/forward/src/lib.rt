@@ -61,7 +61,7 @@ fn read_carried(
 }
 
 pub fn read_forward(s: &[u8], words: &mut [u64], n: usize, c: Cursor, down: &[u8], up: &[u8]) -> At
-    requires { ⌜ (length (now s) ≤ 8192) × (n < 2 ^ 21) × (1 ≤ length (now down)) × (length (now down) ≤ 256) × (1 ≤ length (now up)) × (length (now up) ≤ 256) ⌝ }
+    requires { ⌜ (length (now s) ≤ 65536) × (n < 2 ^ 21) × (1 ≤ length (now down)) × (length (now down) ≤ 256) × (1 ≤ length (now up)) × (length (now up) ≤ 256) ⌝ }
     ensures { λ r. ⌜ Runs 236122 (forwardAt (now (down .entry)) (now (up .entry)) (now (s .entry))) (now (s .entry)) c n (now (words .entry)) (now (words .exit)) r ⌝ }
 {
     if c.why != 0 {

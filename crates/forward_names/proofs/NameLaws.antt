@@ -17,17 +17,17 @@ use Rattle.forward_names.specs.Names.{turned, nameless, nameIn, nameOf, 
 ---------------------------------------------------------------- the tests
 
 module _ (s down up : List ℕ) where
-  pub long : 8192 < length s → nameless 1 0 ≡ forward-name s down up
+  pub long : 65536 < length s → nameless 1 0 ≡ forward-name s down up
   unfolding forward-name frame-fits
-  long h = rw (lt-leb (length s) 8192 h)
+  long h = rw (lt-leb (length s) 65536 h)
 
-  pub no-tables : length s ≤ 8192 → (table-fits down && table-fits up) ≡ false → nameless 2 0 ≡ forward-name s down up
+  pub no-tables : length s ≤ 65536 → (table-fits down && table-fits up) ≡ false → nameless 2 0 ≡ forward-name s down up
   unfolding forward-name frame-fits
-  no-tables h t = rw (le-leb (length s) 8192 h, t)
+  no-tables h t = rw (le-leb (length s) 65536 h, t)
 
-  pub reads : {r : Named} → length s ≤ 8192 → (table-fits down && table-fits up) ≡ true → r ≡ nameOf (readFrame (groundPdus down up) s) → r ≡ forward-name s down up
+  pub reads : {r : Named} → length s ≤ 65536 → (table-fits down && table-fits up) ≡ true → r ≡ nameOf (readFrame (groundPdus down up) s) → r ≡ forward-name s down up
   unfolding forward-name frame-fits
-  reads h t e = e ∙ rw (le-leb (length s) 8192 h, t)
+  reads h t e = e ∙ rw (le-leb (length s) 65536 h, t)
 
 ---------------------------------------------------------------- the verdict
 

@@ -27,7 +27,7 @@ pub struct Named {
 }
 
 // The bytes of the longest frame.
-const LONGEST: usize = 8192;
+const LONGEST: usize = 65536;
 
 // The index of the forward message among the uplink's alternatives.
 const FORWARD: u64 = 4;
@@ -69,7 +69,7 @@ fn no_name(number: u64, reach: usize, lacked: usize) -> Named
 
 // The name of a clean frame, whose header stands at a fixed place.
 fn clean_name(frame: &[u8], reach: usize) -> Named
-    requires { ⌜ length (now frame) ≤ 8192 ⌝ }
+    requires { ⌜ length (now frame) ≤ 65536 ⌝ }
     ensures { λ r. ⌜ ((down up : List ℕ) (R : List Rec) → readFrame (groundPdus down up) (now (frame .entry)) ≡ accept false reach 0 R → r ≡ nameIn reach R) ⌝ }
 {
     // behind the extension bit, which is clear where the frame is clean

@@ -39,7 +39,7 @@ pub fn try_data(s: &[u8], words: &mut [u64], n: usize, c: Cursor, table: &[u8]) 
 
 // A message in its inner string.
 pub fn read_inner(s: &[u8], words: &mut [u64], n: usize, c: Cursor, table: &[u8]) -> At
-    requires { ⌜ (length (now s) ≤ 8192) × (n < 2 ^ 22) × (1 ≤ length (now table)) × (length (now table) ≤ 256) ⌝ }
+    requires { ⌜ (length (now s) ≤ 65536) × (n < 2 ^ 22) × (1 ≤ length (now table)) × (length (now table) ≤ 256) ⌝ }
     ensures { λ r. ⌜ Runs 236059 (innerAt (now (table .entry)) (now (s .entry))) (now (s .entry)) c n (now (words .entry)) (now (words .exit)) r ⌝ }
 {
     if c.why != 0 {

@@ -35,10 +35,10 @@ string-off {d = d} {l = l} measures passes goes q o =
 
 module _ {s : List ℕ} {c : Cursor} {l : Measured} (measures : Measures s c l) {t : Bool} where
   -- places that the frame holds are small
-  pub near : length s ≤ 8192 → t ≡ leb (l .c .at) (length s * 8) → t ≡ true → l .c .at ≤ 65536
+  pub near : length s ≤ 65536 → t ≡ leb (l .c .at) (length s * 8) → t ≡ true → l .c .at ≤ 524288
   near h p q = let i = leb-true (l .c .at) (length s * 8) (sym p ∙ q) in omega arith
 
-  pub near-end : length s ≤ 8192 → t ≡ leb (l .c .at + l .count) (length s * 8) → t ≡ true → l .c .at + l .count ≤ 65536
+  pub near-end : length s ≤ 65536 → t ≡ leb (l .c .at + l .count) (length s * 8) → t ≡ true → l .c .at + l .count ≤ 524288
   near-end h p q = let i = leb-true (l .c .at + l .count) (length s * 8) (sym p ∙ q) in omega arith
 
   module _ {d : Cursor} (passes : Passes (l .c) (l .count) d) (goes : d .why ≡ 0) where

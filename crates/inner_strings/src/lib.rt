@@ -16,7 +16,7 @@ pub enum Inner {
 }
 
 pub fn find_string(s: &[u8], c: Cursor) -> Inner
-    requires { ⌜ length (now s) ≤ 8192 ⌝ }
+    requires { ⌜ length (now s) ≤ 65536 ⌝ }
     ensures { λ r. ⌜ Strings (now (s .entry)) c r ⌝ }
 {
     let l = length(s, c);

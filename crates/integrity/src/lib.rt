@@ -11,7 +11,7 @@ use records::emit;
 use runs::At;
 
 pub fn read_integrity(s: &[u8], words: &mut [u64], n: usize, c: Cursor) -> At
-    requires { ⌜ (length (now s) ≤ 8192) × (n < 2 ^ 31) ⌝ }
+    requires { ⌜ (length (now s) ≤ 65536) × (n < 2 ^ 31) ⌝ }
     ensures { λ r. ⌜ Runs 1 (integrity (now (s .entry))) (now (s .entry)) c n (now (words .entry)) (now (words .exit)) r ⌝ }
 {
     if c.why != 0 {

@@ -234,7 +234,7 @@ module _ {s : List ℕ} {c d : Cursor} {n : ℕ} {h : Head} where
   told-part q x = rw q at x
 
 module _ {s : List ℕ} {c d : Cursor} {n sum : ℕ} (i : Inside s c) where
-  pub sums-last : length s ≤ 8192 → sum ≤ c .at * 8192 → Ends s c n d → Sums s c sum (record { count = sum + n; c = d })
+  pub sums-last : length s ≤ 65536 → sum ≤ c .at * 8192 → Ends s c n d → Sums s c sum (record { count = sum + n; c = d })
   sums-last l b h = record { then = λ k g. go k g; few = omega (arith, i .0, i .1, h .few) }
     where
       go : (k : ℕ → ℕ → ℕ → Ans) (g : ℕ) {e : Cursor} {R : List Rec} → c .end < c .at + g * 8 → Reads (λ u p. k (sum + n) u p) s d e R → Reads (λ u p. lengths g (bitOf s) u p (λ m q. k (sum + m) u q)) s c e R
@@ -250,12 +250,12 @@ module _ {s : List ℕ} {c d : Cursor} {n sum : ℕ} (i : Inside s c) where
       go k (suc g) f y = h .then (λ m u p. k (sum + m) u p) g (simp add-assoc at (x .then k g (omega (arith, h .window, h .ahead)) y))
 
 module _ {s : List ℕ} {c : Cursor} where
-  pub measures-in : {r : Measured} → length s ≤ 8192 → c .end ≤ length s * 8 → Sums s c 0 r → Measures s c r
+  pub measures-in : {r : Measured} → length s ≤ 65536 → c .end ≤ length s * 8 → Sums s c 0 r → Measures s c r
   unfolding lengthThen
-  measures-in l e x = record { then = λ k y. simp zero-add at (x .then k 8193 (omega arith) y); few = x .few }
+  measures-in l e x = record { then = λ k y. simp zero-add at (x .then k 65537 (omega arith) y); few = x .few }
 
   -- outside the window, or the frame, nothing is owed
-  measures-where : {r : Measured} → r .count ≤ 2 ^ 30 → (Inside s c → Measures s c r) → Measures s c r
+  measures-where : {r : Measured} → r .count ≤ 2 ^ 33 → (Inside s c → Measures s c r) → Measures s c r
   measures-where f h = record { then = λ k y. record { led = λ i. h i .then k y .led i }; few = f }
 
   measures-out : (Inside s c → ⊥) → Measures s c (record { count = 0; c = c })
@@ -281,7 +281,7 @@ module _ {s : List ℕ} {c : Cursor} where
           let a : Pulls s c 1 form = record { gave = λ _. got y (omega arith) refl refl } in
           let b : Pulls s (form .c) 7 g = record { gave = λ _. got refl (omega arith) (omega arith) (q ∙ ap (λ (p : ℕ). put c p 0 (c .marks)) (omega arith)) } in
           let h : Ends s c (g .v) (g .c) = head-short i a (omega arith) (record { pulls = b; below = λ _. omega arith; there = λ _. z }) in
-          record { then = λ k r. h .then k 8192 r; few = omega arith }
+          record { then = λ k r. h .then k 65536 r; few = omega arith }
 
   -- the cursor behind a length stands in the same window
   pub measures-inside : {r : Measured} → Measures s c r → Inside s c → Inside s (r .c) × (r .c .end ≡ c .end)

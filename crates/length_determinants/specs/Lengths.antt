@@ -45,12 +45,12 @@ Heads s c (Part n d) = GoesOn s c n d
 pub record Sums (s : List ℕ) (c : Cursor) (sum : ℕ) (r : Measured) : Type 0 where
   pub then : (k : ℕ → ℕ → ℕ → Ans) (g : ℕ) {d : Cursor} {R : List Rec} → c .end < c .at + g * 8 → Reads (λ u p. k (r .count) u p) s (r .c) d R
       → Reads (λ u p. lengths g (bitOf s) u p (λ n q. k (sum + n) u q)) s c d R
-  pub few : r .count ≤ 2 ^ 30
+  pub few : r .count ≤ 2 ^ 33
 
 -- the length determinant, and what follows it
 pub record Measures (s : List ℕ) (c : Cursor) (r : Measured) : Type 0 where
   pub then : (k : ℕ → ℕ → ℕ → Ans) {d : Cursor} {R : List Rec} → Reads (λ u p. k (r .count) u p) s (r .c) d R → Reads (λ u p. lengthThen (bitOf s) u p (λ n q. k n u q)) s c d R
-  pub few : r .count ≤ 2 ^ 30
+  pub few : r .count ≤ 2 ^ 33
 
 ---------------------------------------------------------------- the normally small number
 

@@ -76,7 +76,7 @@ fn one(s: &[u8], c: Cursor) -> Head
 
 // The lengths from here on, added to the sum of those before. Each fragment takes eight bits, so the bits left fall, and the sum stays small.
 fn count(s: &[u8], c: Cursor, sum: usize) -> Measured
-    requires { ⌜ (length (now s) ≤ 8192) × Inside (now s) c × (sum ≤ c .at * 8192) ⌝ }
+    requires { ⌜ (length (now s) ≤ 65536) × Inside (now s) c × (sum ≤ c .at * 8192) ⌝ }
     ensures { λ r. ⌜ Sums (now (s .entry)) c sum r ⌝ }
 {
     match one(s, c) {
@@ -90,7 +90,7 @@ fn count(s: &[u8], c: Cursor, sum: usize) -> Measured
 
 // The length determinant: the sum of all lengths in a row. Eight bits that are below 128 are one length in the short form, and all.
 pub fn length(s: &[u8], c: Cursor) -> Measured
-    requires { ⌜ length (now s) ≤ 8192 ⌝ }
+    requires { ⌜ length (now s) ≤ 65536 ⌝ }
     ensures { λ r. ⌜ Measures (now (s .entry)) c r ⌝ }
 {
     let short = bits(s, c, 8);
@@ -108,7 +108,7 @@ pub fn length(s: &[u8], c: Cursor) -> Measured
 
 // The length determinant, in whatever form its lengths are.
 fn any_form(s: &[u8], c: Cursor) -> Measured
-    requires { ⌜ length (now s) ≤ 8192 ⌝ }
+    requires { ⌜ length (now s) ≤ 65536 ⌝ }
     ensures { λ r. ⌜ Measures (now (s .entry)) c r ⌝ }
 {
     let at = c.at;
@@ -187,7 +187,7 @@ fn last_eight(s: &[u8], c: Cursor, n: Octets) -> Got
 
 // A normally small number: 0 and 6 bits, or 1, a length and so many octets. Its mark is the caller's, before it.
 pub fn small(s: &[u8], c: Cursor) -> Got
-    requires { ⌜ length (now s) ≤ 8192 ⌝ }
+    requires { ⌜ length (now s) ≤ 65536 ⌝ }
     ensures { λ r. ⌜ Smalls (now (s .entry)) c r ⌝ }
 {
     let form = bits(s, c, 1);

@@ -64,12 +64,12 @@ zeros (suc k) (c ∷ cs) h =
 
 module _ (s down up : List ℕ) (h : forward-name s down up .number ≡ 0) where
   -- a name is given only for a frame that is short enough
-  pub short : length s ≤ 8192
+  pub short : length s ≤ 65536
   unfolding forward-name frame-fits
-  short = go (leb (length s) 8192) refl h
+  short = go (leb (length s) 65536) refl h
     where
-      go : (t : Bool) → leb (length s) 8192 ≡ t → cond t (cond (table-fits down && table-fits up) (nameOf (readFrame (groundPdus down up) s)) (nameless 2 0)) (nameless 1 0) .number ≡ 0 → length s ≤ 8192
-      go true q z = leb-true (length s) 8192 q
+      go : (t : Bool) → leb (length s) 65536 ≡ t → cond t (cond (table-fits down && table-fits up) (nameOf (readFrame (groundPdus down up) s)) (nameless 2 0)) (nameless 1 0) .number ≡ 0 → length s ≤ 65536
+      go true q z = leb-true (length s) 65536 q
       go false q z = absurd (omega arith)
 
   pub small : forward-name s down up .size ≤ 8

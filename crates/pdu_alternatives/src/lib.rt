@@ -19,7 +19,7 @@ use runs::At;
 
 // The start of a downlink: its mode, and the protected message.
 fn read_start(s: &[u8], words: &mut [u64], n: usize, c: Cursor, down: &[u8]) -> At
-    requires { ⌜ (length (now s) ≤ 8192) × (n < 2 ^ 20) × (1 ≤ length (now down)) × (length (now down) ≤ 256) ⌝ }
+    requires { ⌜ (length (now s) ≤ 65536) × (n < 2 ^ 20) × (1 ≤ length (now down)) × (length (now down) ≤ 256) ⌝ }
     ensures { λ r. ⌜ Runs 236061 (startAt (now (down .entry)) (now (s .entry))) (now (s .entry)) c n (now (words .entry)) (now (words .exit)) r ⌝ }
 {
     let has = presence(s, c, 1);
@@ -31,7 +31,7 @@ fn read_start(s: &[u8], words: &mut [u64], n: usize, c: Cursor, down: &[u8]) -> 
 }
 
 fn down_alternative(s: &[u8], words: &mut [u64], n: usize, c: Cursor, index: u64, down: &[u8]) -> At
-    requires { ⌜ (length (now s) ≤ 8192) × (n < 2 ^ 20) × (1 ≤ length (now down)) × (length (now down) ≤ 256) ⌝ }
+    requires { ⌜ (length (now s) ≤ 65536) × (n < 2 ^ 20) × (1 ≤ length (now down)) × (length (now down) ≤ 256) ⌝ }
     ensures { λ r. ⌜ Runs 236122 (alternativeAt 0 index (now (down .entry)) [] (now (s .entry))) (now (s .entry)) c n (now (words .entry)) (now (words .exit)) r ⌝ }
 {
     if index == 0 {
@@ -59,7 +59,7 @@ fn up_alternative(
     down: &[u8],
     up: &[u8],
 ) -> At
-    requires { ⌜ (length (now s) ≤ 8192) × (n < 2 ^ 20) × (1 ≤ length (now down)) × (length (now down) ≤ 256) × (1 ≤ length (now up)) × (length (now up) ≤ 256) ⌝ }
+    requires { ⌜ (length (now s) ≤ 65536) × (n < 2 ^ 20) × (1 ≤ length (now down)) × (length (now down) ≤ 256) × (1 ≤ length (now up)) × (length (now up) ≤ 256) ⌝ }
     ensures { λ r. ⌜ Runs 236122 (alternativeAt 1 index (now (down .entry)) (now (up .entry)) (now (s .entry))) (now (s .entry)) c n (now (words .entry)) (now (words .exit)) r ⌝ }
 {
     if index == 0 {
@@ -92,7 +92,7 @@ pub fn alternative(
     down: &[u8],
     up: &[u8],
 ) -> At
-    requires { ⌜ (length (now s) ≤ 8192) × (n < 2 ^ 20) × (1 ≤ length (now down)) × (length (now down) ≤ 256) × (1 ≤ length (now up)) × (length (now up) ≤ 256) ⌝ }
+    requires { ⌜ (length (now s) ≤ 65536) × (n < 2 ^ 20) × (1 ≤ length (now down)) × (length (now down) ≤ 256) × (1 ≤ length (now up)) × (length (now up) ≤ 256) ⌝ }
     ensures { λ r. ⌜ Runs 236122 (alternativeAt direction index (now (down .entry)) (now (up .entry)) (now (s .entry))) (now (s .entry)) c n (now (words .entry)) (now (words .exit)) r ⌝ }
 {
     if direction == 0 {

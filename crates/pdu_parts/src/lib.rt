@@ -30,7 +30,7 @@ pub fn reason_part(s: &[u8], words: &mut [u64], n: usize, c: Cursor, range: Rang
 
 // An alternative that the extension bit names: its index is told, and nothing else is read.
 pub fn read_extension(s: &[u8], words: &mut [u64], n: usize, c: Cursor) -> At
-    requires { ⌜ (length (now s) ≤ 8192) × (n < 2 ^ 31) ⌝ }
+    requires { ⌜ (length (now s) ≤ 65536) × (n < 2 ^ 31) ⌝ }
     ensures { λ r. ⌜ Runs 2 (extensionAt (now (s .entry))) (now (s .entry)) c n (now (words .entry)) (now (words .exit)) r ⌝ }
 {
     if c.why != 0 {

@@ -31,7 +31,7 @@ pub fn read_pdu(
     down: &[u8],
     up: &[u8],
 ) -> At
-    requires { ⌜ (length (now s) ≤ 8192) × (n < 2 ^ 19) × (1 ≤ length (now down)) × (length (now down) ≤ 256) × (1 ≤ length (now up)) × (length (now up) ≤ 256) × (direction ≤ 1) × (c .why ≡ 0) ⌝ }
+    requires { ⌜ (length (now s) ≤ 65536) × (n < 2 ^ 19) × (1 ≤ length (now down)) × (length (now down) ≤ 256) × (1 ≤ length (now up)) × (length (now up) ≤ 256) × (direction ≤ 1) × (c .why ≡ 0) ⌝ }
     ensures { λ r. ⌜ Runs 236124 (pduAt direction (now (down .entry)) (now (up .entry)) (now (s .entry))) (now (s .entry)) c n (now (words .entry)) (now (words .exit)) r ⌝ }
 {
     let m = emit(words, n, 1, 0, direction, 0);

@@ -20,7 +20,7 @@ use runs::At;
 
 // The octets of an algorithm, if they are there. They are not looked at: mark 4.
 fn skip_algorithm(s: &[u8], c: Cursor, has: u64) -> Cursor
-    requires { ⌜ length (now s) ≤ 8192 ⌝ }
+    requires { ⌜ length (now s) ≤ 65536 ⌝ }
     ensures { λ r. ⌜ Reads (algorithm has (now (s .entry))) (now (s .entry)) c r [] ⌝ }
 {
     if has == 0 {
@@ -34,7 +34,7 @@ fn skip_algorithm(s: &[u8], c: Cursor, has: u64) -> Cursor
 
 // The message, or the record that there is none.
 fn message_part(s: &[u8], words: &mut [u64], n: usize, c: Cursor, has: u64, table: &[u8]) -> At
-    requires { ⌜ (length (now s) ≤ 8192) × (n < 2 ^ 22) × (1 ≤ length (now table)) × (length (now table) ≤ 256) ⌝ }
+    requires { ⌜ (length (now s) ≤ 65536) × (n < 2 ^ 22) × (1 ≤ length (now table)) × (length (now table) ≤ 256) ⌝ }
     ensures { λ r. ⌜ Runs 236059 (messagePart has (now (table .entry)) (now (s .entry))) (now (s .entry)) c n (now (words .entry)) (now (words .exit)) r ⌝ }
 {
     if has == 0 {
@@ -49,7 +49,7 @@ fn message_part(s: &[u8], words: &mut [u64], n: usize, c: Cursor, has: u64, tabl
 
 // A set extension bit has no reader.
 pub fn read_protected(s: &[u8], words: &mut [u64], n: usize, c: Cursor, table: &[u8]) -> At
-    requires { ⌜ (length (now s) ≤ 8192) × (n < 2 ^ 21) × (1 ≤ length (now table)) × (length (now table) ≤ 256) ⌝ }
+    requires { ⌜ (length (now s) ≤ 65536) × (n < 2 ^ 21) × (1 ≤ length (now table)) × (length (now table) ≤ 256) ⌝ }
     ensures { λ r. ⌜ Runs 236060 (protected (now (table .entry)) (now (s .entry))) (now (s .entry)) c n (now (words .entry)) (now (words .exit)) r ⌝ }
 {
     let extension = bits(s, c, 1);

@@ -10,7 +10,7 @@ use super::read::start;
 const SEQUENCE: [u8; 8] = [0x9E, 0x00, 0x06, 0x00, 0x04, 0x0A, 0x46, 0x90];
 
 fn record(frame: &[u8])
-    requires { ⌜ length (now frame) ≤ 8192 ⌝ }
+    requires { ⌜ length (now frame) ≤ 65536 ⌝ }
 {
     let extended = number(b"A.4\nextended ", frame, start(frame), 1);
     let optional = number(b", i and j ", frame, extended, 2);

@@ -107,7 +107,7 @@ fn child(frame: &[u8], c: Cursor) -> Cursor {
 }
 
 fn record(frame: &[u8])
-    requires { ⌜ length (now frame) ≤ 8192 ⌝ }
+    requires { ⌜ length (now frame) ≤ 65536 ⌝ }
 {
     let there = number(b"A.1\nchildren are there: ", frame, start(frame), 1);
     let named = name(b"\nname ", frame, there);

@@ -7,11 +7,11 @@ use length_determinants::length;
 use length_determinants::small;
 
 // The longest frame that the cursor reads.
-const LIMIT: usize = 8192;
+const LIMIT: usize = 65536;
 
 // The window is the whole frame.
 pub fn start(frame: &[u8]) -> Cursor
-    requires { ⌜ length (now frame) ≤ 8192 ⌝ }
+    requires { ⌜ length (now frame) ≤ 65536 ⌝ }
 {
     Cursor {
         at: 0,

@@ -14,11 +14,11 @@ pub struct Reader<'a> {
     pub c: Cursor,
 }
 
-// A place in a frame, whose window is the whole frame. A frame over 8,192 bytes is not read: refusal 1.
+// A place in a frame, whose window is the whole frame. A frame over 65,536 bytes is not read: refusal 1.
 pub fn start(s: &[u8], at: usize) -> Cursor
     ensures { λ r. ⌜ r ≡ opened (now (s .entry)) at ⌝ }
 {
-    if s.len() <= 8192 {
+    if s.len() <= 65536 {
         return Cursor {
             at: at,
             end: s.len() * 8,

@@ -50,20 +50,20 @@ module _ {c : Cutting} {r : Found} {x : List ℕ} (first : Walked c r [] x) (s w
 ---------------------------------------------------------------- the tests
 
 module _ (k : Kind) (d : ℕ) (down up s w : List ℕ) where
-  pub too-long : 8192 < length s → _≡_ {A = Outcome} (Refused 1 0, w) (list-starts k d down up s w)
+  pub too-long : 65536 < length s → _≡_ {A = Outcome} (Refused 1 0, w) (list-starts k d down up s w)
   unfolding list-starts frame-fits
-  too-long h = rw (lt-leb (length s) 8192 h)
+  too-long h = rw (lt-leb (length s) 65536 h)
 
-  module _ (h : length s ≤ 8192) where
+  module _ (h : length s ≤ 65536) where
     pub bad-tables : (table-fits down && table-fits up) ≡ false → _≡_ {A = Outcome} (Refused 2 0, w) (list-starts k d down up s w)
     unfolding list-starts frame-fits
-    bad-tables t = rw (le-leb (length s) 8192 h, t)
+    bad-tables t = rw (le-leb (length s) 65536 h, t)
 
     module _ (t : (table-fits down && table-fits up) ≡ true) where
       pub bad-direction : 1 < d → _≡_ {A = Outcome} (Refused 3 0, w) (list-starts k d down up s w)
       unfolding list-starts frame-fits direction-fits
-      bad-direction l = rw (le-leb (length s) 8192 h, t, lt-leb d 1 l)
+      bad-direction l = rw (le-leb (length s) 65536 h, t, lt-leb d 1 l)
 
       pub decided : {o : Outcome} → d ≤ 1 → o ≡ listed (cut (formatOf k d down up) s) s w → o ≡ list-starts k d down up s w
       unfolding list-starts frame-fits direction-fits
-      decided l e = e ∙ rw (le-leb (length s) 8192 h, t, le-leb d 1 l)
+      decided l e = e ∙ rw (le-leb (length s) 65536 h, t, le-leb d 1 l)

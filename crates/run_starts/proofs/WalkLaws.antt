@@ -45,7 +45,7 @@ front-all (b ∷ bs) (x ∷ w) l = ap (λ (v : List ℕ). b ∷ v) (front-all bs
 rest-is : (s : List ℕ) (at : ℕ) → take (length s - at) (drop at s) ≡ drop at s
 rest-is s at = take-all (length s - at) (drop at s) (omega (arith, length-drop at s))
 
-pub rest-length : (s : List ℕ) (at : ℕ) → length s ≤ 8192 → length (take (length s - at) (drop at s)) ≤ 8192
+pub rest-length : (s : List ℕ) (at : ℕ) → length s ≤ 65536 → length (take (length s - at) (drop at s)) ≤ 65536
 rest-length s at l = rw (rest-is s at, length-drop at s) (omega arith)
 
 module _ (f : Fmt) (s : List ℕ) (at : ℕ) {r : Reach} (e : reachOf r ≡ cleanReach (readFrame f (take (length s - at) (drop at s)))) where

@@ -12,7 +12,7 @@ use message_runs::Kind;
 use message_runs::Starts;
 
 // The bytes of the longest run.
-const LONGEST: usize = 8192;
+const LONGEST: usize = 65536;
 
 // direction 0 is the aircraft's message, 1 the ground's. The starts are bytes of the run, the first of them 0.
 pub fn list_starts(
@@ -57,7 +57,7 @@ struct Found {
 
 // From message to message. A start is written where there is room for it, and counted in any case.
 fn walk(kind: Kind, direction: u64, down: &[u8], up: &[u8], run: &[u8], starts: &mut [u64]) -> Found
-    requires { ⌜ (length (now run) ≤ 8192) × (1 ≤ length (now down)) × (length (now down) ≤ 256) × (1 ≤ length (now up)) × (length (now up) ≤ 256) × (direction ≤ 1) ⌝ }
+    requires { ⌜ (length (now run) ≤ 65536) × (1 ≤ length (now down)) × (length (now down) ≤ 256) × (1 ≤ length (now up)) × (length (now up) ≤ 256) × (direction ≤ 1) ⌝ }
     ensures { λ r. ⌜ Walked (cut (formatOf kind direction (now (down .entry)) (now (up .entry))) (now (run .entry))) r (now (starts .entry)) (now (starts .exit)) ⌝ }
 {
     let mut count = 0;

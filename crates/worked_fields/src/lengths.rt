@@ -7,7 +7,7 @@ use cursor::place::Got;
 use length_determinants::length;
 
 fn case(frame: &[u8])
-    requires { ⌜ length (now frame) ≤ 8192 ⌝ }
+    requires { ⌜ length (now frame) ≤ 65536 ⌝ }
 {
     let l = length(frame, start(frame));
     let behind = l.c;

@@ -7,7 +7,7 @@ use cursor::place::Got;
 
 // The window is the whole frame.
 pub fn start(frame: &[u8]) -> Cursor
-    requires { ⌜ length (now frame) ≤ 8192 ⌝ }
+    requires { ⌜ length (now frame) ≤ 65536 ⌝ }
     ensures { λ r. ⌜ r ≡ record { at = 0; end = length (now (frame .entry)) * 8; why = 0; marks = 0 } ⌝ }
 {
     Cursor {

@@ -10,7 +10,7 @@ use field_ranges::table::YEAR;
 use ranged_numbers::ranged;
 
 fn case(kind: &[u8], frame: &[u8], range: Range)
-    requires { ⌜ (length (now frame) ≤ 8192) × Listed range ⌝ }
+    requires { ⌜ (length (now frame) ≤ 65536) × Listed range ⌝ }
 {
     let g = ranged(frame, start(frame), range);
     print(kind, frame, g);

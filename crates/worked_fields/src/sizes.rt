@@ -8,7 +8,7 @@ use field_ranges::table::AIRPORT_SIZE;
 use field_ranges::table::ELEMENTS;
 
 fn airport(frame: &[u8])
-    requires { ⌜ length (now frame) ≤ 8192 ⌝ }
+    requires { ⌜ length (now frame) ≤ 65536 ⌝ }
 {
     let g = size(frame, start(frame), AIRPORT_SIZE);
     print(b"airport size", frame, g);
@@ -21,7 +21,7 @@ pub fn airports() {
 }
 
 fn element(frame: &[u8])
-    requires { ⌜ length (now frame) ≤ 8192 ⌝ }
+    requires { ⌜ length (now frame) ≤ 65536 ⌝ }
 {
     let g = size(frame, start(frame), ELEMENTS);
     print(b"element count", frame, g);

@@ -6,7 +6,7 @@ use super::line::start;
 use length_determinants::small;
 
 fn case(frame: &[u8])
-    requires { ⌜ length (now frame) ≤ 8192 ⌝ }
+    requires { ⌜ length (now frame) ≤ 65536 ⌝ }
 {
     let g = small(frame, start(frame));
     print(b"small", frame, g);

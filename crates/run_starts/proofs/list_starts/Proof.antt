@@ -26,7 +26,7 @@ returns-3 c =
     rw (c .refused3 .ensures) (bad-direction (e .kind) (e .direction) (e .down .now) (e .up .now) (e .run .now) (e .starts .now) (c .before .before .before .before .if1 .left) (tables-hold _ _ (c .before .before .before .tables-fit .ensures) (c .before .before .if2 .left)) (c .before .if3 .taken))
 
 -- behind the tests: what a walk requires, and that what was found decides
-tested : (c : tie.Else3) → (length (c .before .before .before .before .before .before .before .before .args .run .now) ≤ 8192) × (1 ≤ length (c .before .before .before .before .before .before .before .before .args .down .now)) × (length (c .before .before .before .before .before .before .before .before .args .down .now) ≤ 256) × (1 ≤ length (c .before .before .before .before .before .before .before .before .args .up .now)) × (length (c .before .before .before .before .before .before .before .before .args .up .now) ≤ 256) × (c .before .before .before .before .before .before .before .before .args .direction ≤ 1)
+tested : (c : tie.Else3) → (length (c .before .before .before .before .before .before .before .before .args .run .now) ≤ 65536) × (1 ≤ length (c .before .before .before .before .before .before .before .before .args .down .now)) × (length (c .before .before .before .before .before .before .before .before .args .down .now) ≤ 256) × (1 ≤ length (c .before .before .before .before .before .before .before .before .args .up .now)) × (length (c .before .before .before .before .before .before .before .before .args .up .now) ≤ 256) × (c .before .before .before .before .before .before .before .before .args .direction ≤ 1)
 tested c =
     let t = tables-are _ _ (c .before .before .tables-fit .ensures) (c .before .if2 .left) in
     (c .before .before .before .if1 .left, t .0, t .1, t .2, t .3, c .if3 .left)
