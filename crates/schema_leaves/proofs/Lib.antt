@@ -1,0 +1,4 @@
+pub mod CameLaws
+pub mod NumberLaws
+pub mod StringLaws
+pub mod LetterLaws

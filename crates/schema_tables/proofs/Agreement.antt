@@ -1,0 +1,109 @@
+-- "the tables for document 01's argument readers, the satellite channel apart, agree with them on every input, refusals included".
+use mathlib.Core.Path.{_≡_, refl, sym, ap, _∙_}
+use mathlib.Core.Bool.{Bool, true, false, cond, _&&_, _||_}
+use mathlib.Core.List.{List, [], _∷_}
+use Prim.Native.Nat.{ℕ, zero, suc, _+_, _*_, _≤_, _<_}
+use native.Mathlib.Omega.{arith}
+use lib.ListN.{length, getD}
+use lib.Dec.{leb}
+use borrow.Author.Tests.{le-leb}
+use Rattle.x691.specs.Bits.{bitOf, uint}
+use Rattle.x691.specs.Types.{extent}
+use Rattle.x691.specs.Encoding.{width, widthIn, highest, count}
+use Rattle.atn.specs.Format.{Fmt, Alts, num, refuse, bad, seq, many, choice, end, _⨾_, none-left, _∥_}
+use Rattle.atn.specs.Reading.{Ctx, Ans, mark, read, readChoice, flags, unreadMarks, sized, pull, fetch, times, over, unless, then, ok, stop, rec}
+use Rattle.atn.specs.Messages.{speedType, code, frequency, numericString, arguments, noReader}
+use Rattle.atn.specs.Entries.{Reply, reply, readFrame, Outcome, enter, decide, test, Test, frame-fits}
+use Rattle.atn.specs.Tags as tag
+use Rattle.atn.proofs.Inverse.{both}
+use Rattle.atn.proofs.Outcomes.{passes}
+use Rattle.schema_tables.specs.Nodes.{nodes, nodeWord, memberOf, membersFrom, alternativesFrom, formatOf, formatAt, meaning}
+use Rattle.schema_tables.specs.Tests.{below, each, raised, range-fits, kind-fits, node-fits, kinds-fit, firstOf, countOf, firstAt, countAt, link-fits, links-fit, within, depth-fits}
+use Rattle.schema_tables.specs.Entry.{table-tests, capped, parse-by-table}
+use Rattle.schema_tables.specs.Arguments.{speedTypesNodes, codeNodes, frequencyNodes, argumentTables}
+use Rattle.schema_tables.proofs.Capped.{Kept, kept-reads}
+
+---------------------------------------------------------------- lists of exactly so many, and the channel
+
+-- a frame whose frequency is a satellite channel
+abbrev pub Channel : List ℕ → Type 0
+Channel s = uint (bitOf s) 0 2 ≡ 3
+
+abbrev pub Reads : List ℕ → Fmt → List ℕ → Type 0
+Reads N f s = readFrame (meaning N) s ≡ readFrame f s
+
+three-speeds : (s : List ℕ) → Reads speedTypesNodes (many 3 3 speedType) s
+unfolding meaning formatAt formatOf memberOf membersFrom alternativesFrom nodeWord nodes mark readFrame read flags unreadMarks sized pull times over unless width widthIn fetch uint
+three-speeds s = let z : leb 0 (length s * 8) ≡ true = le-leb 0 (length s * 8) (omega arith) in rw z
+
+four-digits : (s : List ℕ) → Reads codeNodes code s
+unfolding meaning formatAt formatOf memberOf membersFrom alternativesFrom nodeWord nodes mark readFrame read flags unreadMarks sized pull times over unless width widthIn fetch uint
+four-digits s = let z : leb 0 (length s * 8) ≡ true = le-leb 0 (length s * 8) (omega arith) in rw z
+
+no-channel : (i : ℕ) (x : Ctx) (b : ℕ → ℕ) (e at : ℕ) (f g h u v : Fmt) → (i ≡ 3 → ⊥) → readChoice (f ∥ g ∥ h ∥ u ∥ none-left) i x b e at ≡ readChoice (f ∥ g ∥ h ∥ v ∥ none-left) i x b e at
+unfolding read
+no-channel zero x b e at f g h u v n = refl
+no-channel (suc zero) x b e at f g h u v n = refl
+no-channel (suc (suc zero)) x b e at f g h u v n = refl
+no-channel (suc (suc (suc zero))) x b e at f g h u v n = absurd (n refl)
+no-channel (suc (suc (suc (suc i)))) x b e at f g h u v n = refl
+
+frequencies : (s : List ℕ) → (Channel s → ⊥) → Reads frequencyNodes frequency s
+unfolding meaning formatAt formatOf memberOf membersFrom alternativesFrom nodeWord nodes mark readFrame read pull fetch width widthIn highest count reply then
+frequencies s n =
+    rw (no-channel (uint (bitOf s) 0 2) (0, 0) (bitOf s) (length s * 8) 2 (num tag.frequency-number 2850 28000) (num tag.frequency-number 23600 27398) (num tag.frequency-number 9000 15999) noReader (numericString tag.satellite-channel tag.satellite-channel-x691 12 12) n)
+
+---------------------------------------------------------------- all of them
+
+-- from number j on, each table means its argument or reads as it; number 6 is the frequency
+data Agree : ℕ → List (List ℕ) → List Fmt → Type 0 where
+  done : {j : ℕ} → Agree j [] []
+  means : {j : ℕ} {N : List ℕ} {f : Fmt} {Ns : List (List ℕ)} {fs : List Fmt} → meaning N ≡ f → Agree (suc j) Ns fs → Agree j (N ∷ Ns) (f ∷ fs)
+  reads : {j : ℕ} {N : List ℕ} {f : Fmt} {Ns : List (List ℕ)} {fs : List Fmt} → ((s : List ℕ) → (j ≡ 6 → Channel s → ⊥) → Reads N f s) → Agree (suc j) Ns fs → Agree j (N ∷ Ns) (f ∷ fs)
+
+all-agree : Agree 0 argumentTables arguments
+unfolding meaning formatAt formatOf memberOf membersFrom alternativesFrom nodeWord nodes mark
+all-agree =
+    means refl
+    (means refl
+    (means refl
+    (reads (λ s n. three-speeds s)
+    (means refl
+    (means refl
+    (reads (λ s n. frequencies s (n refl))
+    (reads (λ s n. four-digits s) (means refl (means refl (means refl (means refl (means refl (means refl (means refl (means refl done)))))))))))))))
+
+pick : (j k : ℕ) {Ns : List (List ℕ)} {fs : List Fmt} → Agree j Ns fs → k < length Ns → (s : List ℕ) → (j + k ≡ 6 → Channel s → ⊥) → Reads (getD Ns k []) (getD fs k noReader) s
+pick j k done l s n = absurd (omega arith)
+pick j zero (means e h) l s n = ap (λ g. readFrame g s) e
+pick j zero (reads e h) l s n = e s λ e. n (omega arith)
+pick j (suc k) (means e h) l s n = pick (suc j) k h (omega arith) s λ e. n (omega arith)
+pick j (suc k) (reads e h) l s n = pick (suc j) k h (omega arith) s λ e. n (omega arith)
+
+-- a frame is read by the table of an argument as by the argument, the frequency's channel apart
+pub agree : (k : ℕ) → k < 16 → (s : List ℕ) → (k ≡ 6 → Channel s → ⊥) → Reads (getD argumentTables k []) (getD arguments k noReader) s
+agree k l s n = pick 0 k all-agree l s λ e. n (omega arith)
+
+---------------------------------------------------------------- none of the tables is refused
+
+all-fit : List (List ℕ) → Bool
+all-fit [] = true
+all-fit (N ∷ Ns) = passes (table-tests N) && all-fit Ns
+
+tables-fit : all-fit argumentTables ≡ true
+unfolding all-fit passes below each raised range-fits kind-fits node-fits kinds-fit firstOf countOf firstAt countAt link-fits links-fit within depth-fits nodeWord nodes
+tables-fit = refl
+
+fit-at : (k : ℕ) (Ns : List (List ℕ)) → all-fit Ns ≡ true → k < length Ns → Kept (getD Ns k [])
+unfolding all-fit
+fit-at k [] h l = absurd (omega arith)
+fit-at zero (N ∷ Ns) h l = both (passes (table-tests N)) (all-fit Ns) h .0
+fit-at (suc k) (N ∷ Ns) h l = fit-at k Ns (both (passes (table-tests N)) (all-fit Ns) h .1) (omega arith)
+
+pub tables-kept : (k : ℕ) → k < 16 → Kept (getD argumentTables k [])
+tables-kept k l = fit-at k argumentTables tables-fit l
+
+-- answers and words: what an entry would give that reads by the argument alone
+pub agree-entry : (k : ℕ) → k < 16 → (s w : List ℕ) → (k ≡ 6 → Channel s → ⊥) → parse-by-table s (getD argumentTables k []) w ≡ capped (enter [] (λ f. readFrame (getD arguments k noReader) f) s w)
+unfolding enter
+agree-entry k l s w n = kept-reads (getD argumentTables k []) (tables-kept k l) s w ∙ ap (λ r. capped (decide (test (frame-fits s) 1 ∷ []) r w)) (agree k l s n)

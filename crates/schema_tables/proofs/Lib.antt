@@ -1,0 +1,4 @@
+pub mod Capped
+pub mod Demands
+pub mod Depth
+pub mod Agreement

@@ -1,0 +1,4 @@
+pub mod Nodes
+pub mod Tests
+pub mod Entry
+pub mod Arguments
