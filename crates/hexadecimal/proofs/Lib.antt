@@ -1,1 +1,1 @@
-pub mod HexLaws
+pub mod StretchLaws

@@ -5,6 +5,11 @@ ghost use Prim.Native.Nat.{_*_, _≤_};
 ghost use lib.ListN.{length};
 ghost use Rattle.hexadecimal.specs.Hex.{Decodes};
 ghost use Rattle.hexadecimal.specs.Hex.{digit as Hex·digit};
+use stretches::more;
+use stretches::start;
+use stretches::whole;
+
+pub mod stretches; // stretches.rt: a text that comes in stretches
 
 // Whether a text is hexadecimal, and how many octets it has; none where it is not.
 pub struct Decoded {
@@ -12,31 +17,12 @@ pub struct Decoded {
     pub count: usize,
 }
 
-// The octets go to the front of out.
+// The octets go to the front of out: the text is one stretch.
 pub fn decode(text: &[u8], out: &mut [u8]) -> Decoded
     requires { ⌜ length (now text) ≤ length (now out) * 2 ⌝ }
     ensures { λ r. ⌜ Decodes (now (text .entry)) (now (out .exit)) r ⌝ }
 {
-    let mut n = 0;
-    while n * 2 + 1 < text.len() {
-        let high = digit(text[n * 2]);
-        let low = digit(text[n * 2 + 1]);
-        if 16 <= high {
-            return bad();
-        }
-        if 16 <= low {
-            return bad();
-        }
-        out[n] = high * 16 + low;
-        n += 1;
-    }
-    if n * 2 < text.len() {
-        return bad();
-    }
-    Decoded {
-        good: true,
-        count: n,
-    }
+    whole(more(start(), text, out))
 }
 
 fn bad() -> Decoded
