@@ -103,7 +103,7 @@ fn part(space: &mut [u8], l: Line, line: &mut [u8]) -> Line
 }
 
 // Reads once where nothing is left; what is then empty is at its end.
-fn filled(space: &mut [u8], input: Input) -> Input
+pub fn filled(space: &mut [u8], input: Input) -> Input
     requires { ⌜ Waits input (length (now space)) ⌝ }
     ensures { λ r. ⌜ Waits r (length (now (space .entry))) ⌝ }
 {
@@ -125,7 +125,7 @@ fn filled(space: &mut [u8], input: Input) -> Input
     }
 }
 
-fn empty(failed: bool) -> Input
+pub fn empty(failed: bool) -> Input
     ensures { λ r. ⌜ Waits r 0 ⌝ }
 {
     Input {
@@ -135,7 +135,7 @@ fn empty(failed: bool) -> Input
     }
 }
 
-fn either(a: bool, b: bool) -> bool {
+pub fn either(a: bool, b: bool) -> bool {
     if a { true } else { b }
 }
 
