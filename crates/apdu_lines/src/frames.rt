@@ -1,25 +1,27 @@
 // A frame and its answer.
-ghost use Prim.Native.Nat.{_*_, _≤_};
+ghost use Prim.Native.Nat.{_≤_};
 ghost use lib.ListN.{length};
 use answers::Answer;
 use cpdlc::parse_apdu;
-use hexadecimal::decode;
+use hexadecimal::stretches::Digits;
+use hexadecimal::stretches::whole;
 use line_output::output::Output;
 use line_output::output::put;
 use lines::said::accepted;
 use lines::said::refused;
 
+// The digits of the line are in the frame.
 pub fn answer(
     gathered: &mut [u8],
     output: Output,
-    line: &[u8],
-    frame: &mut [u8],
+    digits: Digits,
+    frame: &[u8],
     words: &mut [u64],
 ) -> Output
-    requires { ⌜ (output .len ≤ length (now gathered)) × (length (now line) ≤ length (now frame) * 2) ⌝ }
+    requires { ⌜ (output .len ≤ length (now gathered)) × (digits .count ≤ length (now frame)) ⌝ }
     ensures { λ r. ⌜ r .len ≤ length (now (gathered .entry)) ⌝ }
 {
-    let d = decode(line, frame);
+    let d = whole(digits);
     if !d.good {
         return put(gathered, output, b"no hex\n");
     }
