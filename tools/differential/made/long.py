@@ -1,4 +1,4 @@
-"""Long frames: fragmented lengths, long strings, full routes, and the limit of 8,192 bytes."""
+"""Long frames: fragmented lengths, long strings, full routes, and the limit of 65,536 bytes."""
 
 from . import cpdlc
 from .bits import Maker
@@ -88,5 +88,5 @@ def long_frame(seed):
     if make.chance(0.3):
         frame = frame[: make.random.randint(0, len(frame))]
     if make.chance(0.2):
-        frame += make.random.randbytes(max(0, make.random.choice([8190, 8191, 8192, 8193]) - len(frame)))
+        frame += make.random.randbytes(max(0, make.random.choice([65534, 65535, 65536, 65537]) - len(frame)))
     return Case("apdu", "-", down, up, frame) if make.chance(0.2) else Case("pdus", "0", down, up, frame)

@@ -20,7 +20,7 @@ fn hex(text: &str) -> Vec<u8> {
 fn outside(entry: &str, direction: &str, down: &[u8], up: &[u8], frame: &[u8]) -> bool {
     let fits = |table: &[u8]| (1..=256).contains(&table.len());
     let tables = entry == "apdu" || entry == "pdus";
-    frame.len() > 8192
+    frame.len() > 65536
         || (tables && !(fits(down) && fits(up)))
         || ((entry == "pdus" || entry == "cm") && direction != "0" && direction != "1")
 }

@@ -23,7 +23,7 @@ class Case:
 
     def refused_before(self):
         """Document 01's refusal 1, 2 or 3, which is given before anything is read; else 0."""
-        if len(self.frame) > 8192:
+        if len(self.frame) > 65536:
             return 1
         if self.entry in ("apdu", "pdus") and not all(1 <= len(table) <= 256 for table in (self.down, self.up)):
             return 2
