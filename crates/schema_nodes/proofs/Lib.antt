@@ -1,2 +1,3 @@
 pub mod NodeLaws
 pub mod TestLaws
+pub mod DepthLaws

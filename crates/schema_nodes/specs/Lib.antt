@@ -1,2 +1,3 @@
 pub mod Row
 pub mod Refusal
+pub mod Depths

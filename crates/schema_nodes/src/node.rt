@@ -1,5 +1,6 @@
 // A node by its number, four words each.
 ghost use mathlib.Core.Path.{_≡_};
+ghost use Rattle.schema_tables.specs.Tests.{firstOf, countOf};
 ghost use Rattle.schema_nodes.specs.Row.{IsNode};
 
 // A kind, and what it takes.
@@ -33,4 +34,39 @@ pub fn node_at(nodes: &[u64], k: usize) -> Node
         b: 0,
         c: 0,
     }
+}
+
+// The first of the nodes that a node names.
+pub fn first_of(n: Node) -> u64
+    ensures { λ r. ⌜ r ≡ firstOf (n .kind) (n .a) (n .b) ⌝ }
+{
+    if n.kind == 5 {
+        return n.b;
+    }
+    if n.kind == 11 {
+        return n.b;
+    }
+    n.a
+}
+
+// How many nodes it names.
+pub fn count_of(n: Node) -> u64
+    ensures { λ r. ⌜ r ≡ countOf (n .kind) (n .b) (n .c) ⌝ }
+{
+    if n.kind == 4 {
+        return n.b;
+    }
+    if n.kind == 5 {
+        return n.c;
+    }
+    if n.kind == 6 {
+        return 1;
+    }
+    if n.kind < 10 {
+        return 0;
+    }
+    if n.kind < 13 {
+        return 1;
+    }
+    0
 }

@@ -1,14 +1,12 @@
 // The first refusal of a table: 17 an unknown kind or an empty range, then 15 a node number out of the table or not higher, then 16 a depth above 16.
 ghost use mathlib.Core.Path.{_≡_};
-ghost use mathlib.Core.Bool.{true};
-ghost use Prim.Native.Nat.{_<_};
-ghost use Rattle.schema_tables.specs.Tests.{range-fits, kind-fits, kinds-fit, firstOf, countOf, link-fits, links-fit, within};
+ghost use Rattle.schema_tables.specs.Tests.{range-fits, kind-fits, kinds-fit, link-fits, links-fit};
 ghost use Rattle.schema_nodes.specs.Refusal.{refusalOf};
+use super::depth::depth_fits;
 use super::node::Node;
+use super::node::count_of;
+use super::node::first_of;
 use super::node::node_at;
-
-// The depth of the deepest table.
-const DEEPEST: usize = 16;
 
 // 0 where the table is not refused.
 pub fn refusal(nodes: &[u64]) -> u64
@@ -20,7 +18,7 @@ pub fn refusal(nodes: &[u64]) -> u64
     if !links_fit(nodes) {
         return 15;
     }
-    if !within(nodes, 0, DEEPEST) {
+    if !depth_fits(nodes) {
         return 16;
     }
     0
@@ -81,41 +79,6 @@ fn kinds_fit(nodes: &[u64]) -> bool
     true
 }
 
-// The first of the nodes that a node names.
-fn first_of(n: Node) -> u64
-    ensures { λ r. ⌜ r ≡ firstOf (n .kind) (n .a) (n .b) ⌝ }
-{
-    if n.kind == 5 {
-        return n.b;
-    }
-    if n.kind == 11 {
-        return n.b;
-    }
-    n.a
-}
-
-// How many nodes it names.
-fn count_of(n: Node) -> u64
-    ensures { λ r. ⌜ r ≡ countOf (n .kind) (n .b) (n .c) ⌝ }
-{
-    if n.kind == 4 {
-        return n.b;
-    }
-    if n.kind == 5 {
-        return n.c;
-    }
-    if n.kind == 6 {
-        return 1;
-    }
-    if n.kind < 10 {
-        return 0;
-    }
-    if n.kind < 13 {
-        return 1;
-    }
-    0
-}
-
 // Node k names only nodes with higher numbers.
 fn link_fits(nodes: &[u64], k: usize) -> bool
     ensures { λ r. ⌜ r ≡ link-fits (now (nodes .entry)) k ⌝ }
@@ -148,27 +111,6 @@ fn links_fit(nodes: &[u64]) -> bool
             return false;
         }
         k += 1;
-    }
-    true
-}
-
-// The depth of node k is at most `left`.
-fn within(nodes: &[u64], k: usize, left: usize) -> bool
-    requires { ⌜ links-fit (now nodes) ≡ true ⌝ }
-    ensures { λ r. ⌜ r ≡ within left (now (nodes .entry)) k ⌝ }
-{
-    if left == 0 {
-        return false;
-    }
-    let n = node_at(nodes, k);
-    let count = count_of(n) as usize;
-    let first = first_of(n) as usize;
-    let mut i: usize = 0;
-    while i < count {
-        if !within(nodes, first + i, left - 1) {
-            return false;
-        }
-        i += 1;
     }
     true
 }

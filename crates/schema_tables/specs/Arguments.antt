@@ -66,7 +66,7 @@ coordinates k =
     ++ angle (k + 4) tag.latitude tag.latitude-thousandths tag.latitude-degrees tag.latitude-hundredths tag.latitude-minutes tag.latitude-seconds tag.latitude-side 90
     ++ angle (k + 15) tag.longitude tag.longitude-thousandths tag.longitude-degrees tag.longitude-hundredths tag.longitude-minutes tag.longitude-seconds tag.longitude-side 180
 
--- a position, from node k on: 37 nodes
+-- a position, from node k on: 36 nodes
 abbrev pub positionAt : ℕ → List ℕ
 positionAt k =
     choices tag.position (k + 1) 5

@@ -11,17 +11,17 @@ returns c = no-kinds _ (c .before .kinds-fit .ensures) (not-true _ (c .if1 .take
 returns-2 : tie.Need-returns-2
 returns-2 c = no-links _ (c .before .before .before .kinds-fit .ensures) (not-false _ (c .before .before .if1 .left)) (c .before .links-fit .ensures) (not-true _ (c .if2 .taken))
 
-within-requires : tie.Need-within-requires
-within-requires c κs = sym (c .before .links-fit .ensures) ∙ not-false _ (c .if2 .left)
+depth-fits-requires : tie.Need-depth-fits-requires
+depth-fits-requires c κs = sym (c .before .links-fit .ensures) ∙ not-false _ (c .if2 .left)
 
 returns-3 : tie.Need-returns-3
-returns-3 c = too-deep _ (c .before .before .before .before .before .kinds-fit .ensures) (not-false _ (c .before .before .before .before .if1 .left)) (c .before .before .before .links-fit .ensures) (not-false _ (c .before .before .if2 .left)) (c .before .within .ensures) (not-true _ (c .if3 .taken))
+returns-3 c = too-deep _ (c .before .before .before .before .before .kinds-fit .ensures) (not-false _ (c .before .before .before .before .if1 .left)) (c .before .before .before .links-fit .ensures) (not-false _ (c .before .before .if2 .left)) (c .before .depth-fits .ensures) (not-true _ (c .if3 .taken))
 
 returns-4 : tie.Need-returns-4
-returns-4 c = all-fits _ (c .before .before .before .before .before .kinds-fit .ensures) (not-false _ (c .before .before .before .before .if1 .left)) (c .before .before .before .links-fit .ensures) (not-false _ (c .before .before .if2 .left)) (c .before .within .ensures) (not-false _ (c .if3 .left))
+returns-4 c = all-fits _ (c .before .before .before .before .before .kinds-fit .ensures) (not-false _ (c .before .before .before .before .if1 .left)) (c .before .before .before .links-fit .ensures) (not-false _ (c .before .before .if2 .left)) (c .before .depth-fits .ensures) (not-false _ (c .if3 .left))
 
 pub refusal-spec : {M : Type 1} → statement M
 refusal-spec =
     tie.close
     (tie.spec
-    (λ c κs. search needs) returns (λ c κs. search needs) returns-2 within-requires returns-3 returns-4)
+    (λ c κs. search needs) returns (λ c κs. search needs) returns-2 depth-fits-requires returns-3 returns-4)

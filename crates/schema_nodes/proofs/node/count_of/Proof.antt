@@ -1,6 +1,6 @@
 use Rattle.schema_nodes.proofs.TestLaws.{count-sequence, count-choice, count-optional, count-leaf, count-one, count-none}
-use Rattle.schema_nodes.proofs.refusal.count_of.Statement.{statement}
-use Rattle.schema_nodes.proofs.refusal.count_of.Tie as tie
+use Rattle.schema_nodes.proofs.node.count_of.Statement.{statement}
+use Rattle.schema_nodes.proofs.node.count_of.Tie as tie
 
 returns : tie.Need-returns
 returns c = count-sequence _ 0 (c .before .before .args .n .b) (c .before .before .args .n .c) (c .if1 .taken)

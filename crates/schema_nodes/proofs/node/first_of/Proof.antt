@@ -1,6 +1,6 @@
 use Rattle.schema_nodes.proofs.TestLaws.{first-choice, first-headed, first-other}
-use Rattle.schema_nodes.proofs.refusal.first_of.Statement.{statement}
-use Rattle.schema_nodes.proofs.refusal.first_of.Tie as tie
+use Rattle.schema_nodes.proofs.node.first_of.Statement.{statement}
+use Rattle.schema_nodes.proofs.node.first_of.Tie as tie
 
 returns : tie.Need-returns
 returns c = first-choice _ (c .before .before .args .n .a) (c .before .before .args .n .b) 0 (c .if1 .taken)

@@ -10,14 +10,14 @@ use borrow.Author.Needs.{needs}
 use Prim.Native.Nat.{ℕ, _<_}
 use borrow.Fn.Kinds.{In}
 use borrow.Fn.PlainCycle.{Measures, is, falls, and}
-use Rattle.schema_nodes.proofs.refusal.within.Reads as within
-use Rattle.schema_nodes.proofs.refusal.within.Kinds as within-kinds
-use Rattle.schema_nodes.proofs.refusal.+within.Lts-within as within-lts
+use Rattle.schema_nodes.proofs.depth.within.Reads as within
+use Rattle.schema_nodes.proofs.depth.within.Kinds as within-kinds
+use Rattle.schema_nodes.proofs.depth.+within.Lts-within as within-lts
 use Rattle.schema_nodes.proofs.node.node_at.Reads as node-at-reads
-use Rattle.schema_nodes.proofs.refusal.count_of.Reads as count-of-reads
-use Rattle.schema_nodes.proofs.refusal.first_of.Reads as first-of-reads
-use Rattle.schema_nodes.proofs.refusal.+within.{statement}
-use Rattle.schema_nodes.proofs.refusal.+within.Tie.{close}
+use Rattle.schema_nodes.proofs.node.count_of.Reads as count-of-reads
+use Rattle.schema_nodes.proofs.node.first_of.Reads as first-of-reads
+use Rattle.schema_nodes.proofs.depth.+within.{statement}
+use Rattle.schema_nodes.proofs.depth.+within.Tie.{close}
 
 abbrev μ-within : Measures 1 within-kinds.ps ℕ
 μ-within κs a = a .1 .1 .0
