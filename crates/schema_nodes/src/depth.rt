@@ -16,7 +16,7 @@ const DEEPEST: usize = 16;
 // The nodes of a table whose depths are kept.
 const KEPT: usize = 4096;
 
-// The root is no deeper. The depths of a table of few nodes are kept, from its last node on, so that each node is looked at once; the nodes of a larger one are walked through, as often as they are named.
+// The root is no deeper. The depths of a table of few nodes are kept, from its last node on, so that each is worked out once; the nodes of a larger one are walked through, as often as they are named.
 pub fn depth_fits(nodes: &[u64]) -> bool
     requires { ⌜ links-fit (now nodes) ≡ true ⌝ }
     ensures { λ r. ⌜ r ≡ within 16 (now (nodes .entry)) 0 ⌝ }
