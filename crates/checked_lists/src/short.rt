@@ -66,7 +66,7 @@ pub fn other_entries() {
 
 pub fn refusals() {
     let words = records();
-    by(b"a byte too long", &[0; 8193], Entry::Pdus(2), &[], &words);
+    by(b"a byte too long", &[0; 65537], Entry::Pdus(2), &[], &words);
     by(b"an empty table", &WILCO, Entry::Pdus(2), &[], &words);
     by(b"direction 2", &WILCO, Entry::Pdus(2), &[0; 128], &words);
     by(

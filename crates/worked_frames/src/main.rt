@@ -3,12 +3,13 @@
 mod line; // line.rt: a case's line
 mod entries; // entries.rt: a case of each entry
 mod cases; // cases.rt: the frames
-mod refused; // refused.rt: what is refused before reading, and for want of room
+mod refused; // refused.rt: the longest frame; what is refused before reading, and for want of room
 
 fn main() {
     cases::empty();
     cases::acse_messages();
     cases::cm_messages();
+    refused::longest();
     refused::too_long();
     refused::no_room();
 }

@@ -1,29 +1,49 @@
-// What is refused before reading, and for want of room.
+// The longest frame; what is refused before reading, and for want of room.
 use super::line::print;
 use acse::parse_acse_apdu;
 use cm::parse_cm;
 
-// 8,193 bytes, of which the first is printed.
-pub fn too_long() {
-    let frame = [0u8; 8193];
+// 65,536 bytes, of which the first is printed.
+pub fn longest() {
+    let frame = [0u8; 65536];
     let mut words = [0u64; 128];
     let ground = parse_cm(&frame, 1, &mut words);
     print(
-        b"cm 1, 8193 bytes that begin with",
+        b"cm 1, 65536 bytes that begin with",
+        &frame[..1],
+        &words,
+        ground,
+    );
+    let association = parse_acse_apdu(&frame, &mut words);
+    print(
+        b"acse, 65536 bytes that begin with",
+        &frame[..1],
+        &words,
+        association,
+    );
+}
+
+// 65,537 bytes, of which the first is printed.
+pub fn too_long() {
+    let frame = [0u8; 65537];
+    let mut words = [0u64; 128];
+    let ground = parse_cm(&frame, 1, &mut words);
+    print(
+        b"cm 1, 65537 bytes that begin with",
         &frame[..1],
         &words,
         ground,
     );
     let logon = parse_cm(&frame, 0, &mut words);
     print(
-        b"cm 0, 8193 bytes that begin with",
+        b"cm 0, 65537 bytes that begin with",
         &frame[..1],
         &words,
         logon,
     );
     let association = parse_acse_apdu(&frame, &mut words);
     print(
-        b"acse, 8193 bytes that begin with",
+        b"acse, 65537 bytes that begin with",
         &frame[..1],
         &words,
         association,

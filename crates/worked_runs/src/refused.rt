@@ -4,21 +4,21 @@ use super::list::list;
 use message_runs::Kind;
 use run_starts::list_starts;
 
-// 8,192 aborts of context management, then one more; nothing else is looked at then.
+// 65,536 aborts of context management, then one more; nothing else is looked at then.
 pub fn too_long() {
-    let run = [0x40u8; 8193];
-    let mut starts = [7u64; 8192];
-    let answer = list(Kind::Cm, 0, &run[..8192], &mut starts);
+    let run = [0x40u8; 65537];
+    let mut starts = [7u64; 65536];
+    let answer = list(Kind::Cm, 0, &run[..65536], &mut starts);
     print(
-        b"cm aircraft, 8192 bytes of",
+        b"cm aircraft, 65536 bytes of",
         &run[..1],
         answer,
-        &starts[8188..],
+        &starts[65532..],
     );
     let mut none = [7u64; 4];
     let longer = list_starts(Kind::Cm, 2, &[], &[], &run, &mut none);
     print(
-        b"cm aircraft, no tables, direction 2, 8193 bytes of",
+        b"cm aircraft, no tables, direction 2, 65537 bytes of",
         &run[..1],
         longer,
         &none,
