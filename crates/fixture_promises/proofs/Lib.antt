@@ -5,3 +5,4 @@ pub mod RoundTrip
 pub mod Entered
 pub mod Words
 pub mod Rewritten
+pub mod EveryClean

@@ -38,7 +38,7 @@ flat-from [] = refl
 flat-from (rec t m v s ∷ R) = ap (λ (S : List Rec). rec t m v s ∷ S) (behind t m v s (flat R) 0 (length R) ∙ flat-from R)
 
 -- four words each
-flat-length : (R : List Rec) → length (flat R) ≡ length R * 4
+pub flat-length : (R : List Rec) → length (flat R) ≡ length R * 4
 unfolding flat
 flat-length [] = refl
 flat-length (rec t m v s ∷ R) = omega (arith, flat-length R)
