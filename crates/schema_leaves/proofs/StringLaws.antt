@@ -90,7 +90,7 @@ module _ (s : List ℕ) (e : ℕ) where
           let v : at ≡ at + (e - at) / 7 * 7 = omega arith in
           pull-no (bitOf s) e at 7 _ y ∙ rw u (ap (λ (p : ℕ). stop (out (7 - (e - at) % 7)) p [] 0) v)
 
-module _ {s : List ℕ} {a : Step} (o : Open s a) (t lo hi n : ℕ) (g : Got) (l : lo ≤ hi) (h : hi < 65536) (q : n ≡ width (hi - lo)) (p : Pulls s (a .c) n g) where
+module _ {s : List ℕ} {a : Step} (o : Open s a) (t lo hi n : ℕ) (g : Got) (l : lo ≤ hi) (h : hi < 1048576) (q : n ≡ width (hi - lo)) (p : Pulls s (a .c) n g) where
   abbrev told : ℕ → ℕ → List Rec
   told from len = pack t 0 (units (bitOf s) 7 from len)
 
@@ -108,13 +108,13 @@ module _ {s : List ℕ} {a : Step} (o : Open s a) (t lo hi n : ℕ) (g : Got) (l
     y : There o n g p
     y = there o n g p z
 
-    pub small : g .v % 65536 ≡ g .v
+    pub small : g .v % 1048576 ≡ g .v
     small =
-        let b : width (hi - lo) ≤ 16 = width-le 16 (hi - lo) (omega arith) in
-        let v : g .v < 2 ^ 16 = rw (y .value) (uint-below-wide 16 s (a .c .at) n (rw q b)) in
+        let b : width (hi - lo) ≤ 20 = width-le 20 (hi - lo) (omega arith) in
+        let v : g .v < 2 ^ 20 = rw (y .value) (uint-below-wide 20 s (a .c .at) n (rw q b)) in
         omega arith
 
-    module _ {size : ℕ} (e : size ≡ lo + g .v % 65536) where
+    module _ {size : ℕ} (e : size ≡ lo + g .v % 1048576) where
       text-then : read (text t 128 (first 0) lo hi) (0, 0) (bitOf s) (a .c .end) (a .c .at) ≡ glue [] (over hi size) (letters (bitOf s) (a .c .end) 7 128 size (g .c .at) λ u. ok u (told (g .c .at) size) 0)
       unfolding then
       text-then =

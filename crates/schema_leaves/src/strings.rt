@@ -19,7 +19,7 @@ use tell::tell_text;
 
 // A text of lo to hi characters of seven bits. Without room for all the reading ran out behind the last whole one; above the most it has mark 1.
 pub fn take_text(s: &[u8], words: &mut [u64], at: Step, tag: u64, lo: u64, hi: u64) -> Step
-    requires { ⌜ Open (now s) at × (lo ≤ hi) × (hi < 65536) ⌝ }
+    requires { ⌜ Open (now s) at × (lo ≤ hi) × (hi < 1048576) ⌝ }
     ensures { λ r. ⌜ Came (read (text tag 128 (first 0) lo hi) (0, 0) (bitOf (now (s .entry))) (at .c .end) (at .c .at)) at (now (words .entry)) r (now (words .exit)) ⌝ }
 {
     let n = at.n;
@@ -28,8 +28,8 @@ pub fn take_text(s: &[u8], words: &mut [u64], at: Step, tag: u64, lo: u64, hi: u
     if c.why != 0 {
         return Step { c: c, n: n };
     }
-    // of 16 bits at most, so the remainder is the number
-    let size = lo + g.v % 65536;
+    // of 20 bits at most, so the remainder is the number
+    let size = lo + g.v % 1048576;
     let len = size as usize;
     let from = c.at;
     let end = c.end;
@@ -97,7 +97,7 @@ fn eight(s: &[u8], at: usize, k: usize) -> u64
 
 // n bits, told by their place and number.
 pub fn take_bits(s: &[u8], words: &mut [u64], at: Step, tag: u64, n: u64) -> Step
-    requires { ⌜ Open (now s) at × (1 ≤ n) × (n < 65536) ⌝ }
+    requires { ⌜ Open (now s) at × (1 ≤ n) × (n < 1048576) ⌝ }
     ensures { λ r. ⌜ Came (read (span tag 1 n n) (0, 0) (bitOf (now (s .entry))) (at .c .end) (at .c .at)) at (now (words .entry)) r (now (words .exit)) ⌝ }
 {
     let c = at.c;

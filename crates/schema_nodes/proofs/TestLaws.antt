@@ -34,33 +34,33 @@ module _ (k b c : ℕ) where
   unfolding kind-fits
   name-fits r q h = rw q h
 
-  pub text-fits : k ≡ 2 → c < 65536 → leb b c ≡ kind-fits k b c
+  pub text-fits : k ≡ 2 → c < 1048576 → leb b c ≡ kind-fits k b c
   unfolding kind-fits
-  text-fits q l = rw (q, lt-ltb c 65536 l) (go (leb b c))
+  text-fits q l = rw (q, lt-ltb c 1048576 l) (go (leb b c))
     where
       go : (t : Bool) → t ≡ t && true
       go true = refl
       go false = refl
 
-  pub text-long : k ≡ 2 → 65536 ≤ c → false ≡ kind-fits k b c
+  pub text-long : k ≡ 2 → 1048576 ≤ c → false ≡ kind-fits k b c
   unfolding kind-fits
-  text-long q l = rw (q, le-ltb c 65536 l) (go (leb b c))
+  text-long q l = rw (q, le-ltb c 1048576 l) (go (leb b c))
     where
       go : (t : Bool) → false ≡ t && false
       go true = refl
       go false = refl
 
-  pub bits-fit : k ≡ 3 → b < 65536 → leb 1 b ≡ kind-fits k b c
+  pub bits-fit : k ≡ 3 → b < 1048576 → leb 1 b ≡ kind-fits k b c
   unfolding kind-fits
-  bits-fit q l = rw (q, lt-ltb b 65536 l) (go (leb 1 b))
+  bits-fit q l = rw (q, lt-ltb b 1048576 l) (go (leb 1 b))
     where
       go : (t : Bool) → t ≡ t && true
       go true = refl
       go false = refl
 
-  pub bits-long : k ≡ 3 → 65536 ≤ b → false ≡ kind-fits k b c
+  pub bits-long : k ≡ 3 → 1048576 ≤ b → false ≡ kind-fits k b c
   unfolding kind-fits
-  bits-long q l = rw (q, le-ltb b 65536 l) (go (leb 1 b))
+  bits-long q l = rw (q, le-ltb b 1048576 l) (go (leb 1 b))
     where
       go : (t : Bool) → false ≡ t && false
       go true = refl

@@ -38,19 +38,19 @@ module _ (k a b c : ℕ) (F : ℕ → Fmt) (N : List ℕ) (j : ℕ) where
   unfolding formatOf
   bits-format e = rw e
 
-pub text-sizes : (k b c : ℕ) → k ≡ 2 → kind-fits k b c ≡ true → (b ≤ c) × (c < 65536)
+pub text-sizes : (k b c : ℕ) → k ≡ 2 → kind-fits k b c ≡ true → (b ≤ c) × (c < 1048576)
 unfolding kind-fits
 text-sizes k b c e h =
-    let z : leb b c && ltb c 65536 ≡ true = rw e at h in
-    let y = both (leb b c) (ltb c 65536) z in
-    (leb-true b c (y .0), ltb-true c 65536 (y .1))
+    let z : leb b c && ltb c 1048576 ≡ true = rw e at h in
+    let y = both (leb b c) (ltb c 1048576) z in
+    (leb-true b c (y .0), ltb-true c 1048576 (y .1))
 
-pub bits-sizes : (k b c : ℕ) → k ≡ 3 → kind-fits k b c ≡ true → (1 ≤ b) × (b < 65536)
+pub bits-sizes : (k b c : ℕ) → k ≡ 3 → kind-fits k b c ≡ true → (1 ≤ b) × (b < 1048576)
 unfolding kind-fits
 bits-sizes k b c e h =
-    let z : leb 1 b && ltb b 65536 ≡ true = rw e at h in
-    let y = both (leb 1 b) (ltb b 65536) z in
-    (leb-true 1 b (y .0), ltb-true b 65536 (y .1))
+    let z : leb 1 b && ltb b 1048576 ≡ true = rw e at h in
+    let y = both (leb 1 b) (ltb b 1048576) z in
+    (leb-true 1 b (y .0), ltb-true b 1048576 (y .1))
 
 pub last-leaf : (k : ℕ) → k < 4 → (k ≡ 0 → ⊥) → (k ≡ 1 → ⊥) → (k ≡ 2 → ⊥) → k ≡ 3
 last-leaf k l n₀ n₁ n₂ = omega (arith, n₀, n₁, n₂)
