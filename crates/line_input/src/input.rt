@@ -1,4 +1,6 @@
 // Lines of standard input, read through lent bytes, so that the memory does not grow with the input.
+ghost use mathlib.Core.Bool.{_||_};
+ghost use mathlib.Core.Path.{_≡_};
 ghost use Prim.Native.Nat.{_≤_};
 ghost use lib.ListN.{length};
 ghost use Rattle.line_input.specs.Input.{Waits, Holds};
@@ -135,7 +137,9 @@ pub fn empty(failed: bool) -> Input
     }
 }
 
-pub fn either(a: bool, b: bool) -> bool {
+pub fn either(a: bool, b: bool) -> bool
+    ensures { λ r. ⌜ r ≡ (a || b) ⌝ }
+{
     if a { true } else { b }
 }
 
