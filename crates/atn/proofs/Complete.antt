@@ -73,7 +73,7 @@ module _ (b : ℕ → ℕ) where
       let u : Spells b q (unitBits n cs) = rw i at (spells-snd b at z (unitBits n cs) s) in
       sized-go b e at lo hi (length cs) _ (g .0) (g .1) (spells-fst b at z (unitBits n cs) s) (omega arith)
       ∙ letters-go b e n cs q _ (g .2) u (omega arith)
-      ∙ rw (units-back b n cs q (g .2) u) (ap (λ (p : ℕ). ok p (lettered t c (x .0) cs) 0) (omega arith))
+      ∙ rw (units-back b n cs q (g .2) u) (ap (λ (p : ℕ). ok p (lettered t c (x .0) at cs) 0) (omega arith))
 
   -- w bits a unit
   length-string : (e w : ℕ) (cs : List ℕ) → length (unitBits (2 ^ w) cs) ≡ length cs * w
@@ -90,7 +90,7 @@ module _ (b : ℕ → ℕ) where
       let q : ℕ = at + width (hi - lo) in
       sized-go b e at lo hi (length cs) _ (g .0) (g .1) (spells-fst b at z r s) (omega arith)
       ∙ pull-go b e q (length cs * w) _ (omega arith)
-      ∙ ap (λ (p : ℕ). ok p (spanned t (x .0) q (length cs * w)) 0) (omega arith)
+      ∙ ap (λ (p : ℕ). ok p (spanned t (x .0) at q (length cs * w)) 0) (omega arith)
 
   any-span-go : (t w : ℕ) → Completes (anySpan t w)
   unfolding read encode tell
@@ -101,7 +101,7 @@ module _ (b : ℕ → ℕ) where
       let j = length-string e w cs in
       length-go b e at (length cs) _ (g .0) (spells-fst b at l r s) (omega arith)
       ∙ pull-go b e (at + length l) (length cs * w) _ (omega arith)
-      ∙ ap (λ (p : ℕ). ok p (spanned t (x .0) (at + length l) (length cs * w)) 0) (omega arith)
+      ∙ ap (λ (p : ℕ). ok p (spanned t (x .0) at (at + length l) (length cs * w)) 0) (omega arith)
 
   -- the presence bits of a sequence, then its fields
   fields-go : (fs : Flds) (vs : Values (membersOf fs)) (x : Ctx) (e at : ℕ) (z : Ans) → Spells b at (preamble (membersOf fs) vs ++ encodeMembers (membersOf fs) vs)
@@ -151,7 +151,7 @@ module _ (b : ℕ → ℕ) where
         let c : length i ≡ w = length-bitsOf w (index ts v) in
         pull-spelt b e at w (index ts v) _ (omega (arith, width-holds (highest ts), index-highest ts v)) (spells-fst b at i (encodePick ts v) s) (omega arith)
         ∙ then-go (λ p. readChoice fs (index ts v) x b e p) refl (completePick fs v x e (at + w) g (rw c at (spells-snd b at i (encodePick ts v) s)) (omega arith))
-        ∙ ap (λ (p : ℕ). ok p (rec t (x .0) (index ts v) 0 ∷ tellPick fs v x (at + w)) 0) (omega arith)
+        ∙ ap (λ (p : ℕ). ok p (rec t (x .0) (index ts v) 0 at ∷ tellPick fs v x (at + w)) 0) (omega arith)
     complete (many lo hi f) v x e at g s h =
         let z : List ℕ = sizeBits lo hi (length v) in
         let l : List ℕ = joined (λ a. encode (typeOf f) a) v in
@@ -192,7 +192,7 @@ module _ (b : ℕ → ℕ) where
         let y : List ℕ = ifAny (λ a. encode (typeOf f) a) (vs .0) in
         let r : List ℕ = encodeMembers (membersOf fs) (vs .1) in
         let a = length-append y r in
-        let n : Rec = rec t (x .0) v z in
+        let n : Rec = rec t (x .0) v z at in
         rw (w .0)
         (any-go (λ a. InRange (typeOf f) a) b e (λ a. encode (typeOf f) a) (λ a p. tell f a x p) (λ p. read f x b e p) (n ∷ []) (λ p. then (ok p (n ∷ []) 0) λ u. readFields fs x b e (suc q) u) (λ p. readFields fs x b e (suc q) p) (λ a p y z u. complete f a x e p y z u) (vs .0) at (g .0)
         (spells-fst b at y r s) (omega arith) (completeFields fs (vs .1) x e (suc q) (at + length y) (g .1) (w .1) (spells-snd b at y r s) (omega arith)) (λ z. then-go (λ u. readFields fs x b e (suc q) u) refl z)

@@ -242,7 +242,7 @@ module _ (b c : ℕ → ℕ) (e u : ℕ) (ag : Agree b c e) (le : e ≤ u) where
     grow (anySpan t w) x at l h = grow-length at _ _ (λ k q. mono-pull c u q (k * w) _ λ _. omega arith) λ k q z. grow-span q (k * w) _ _ (λ v. refl) (λ v. grow-none e u)
     grow (skipped m) x at l h = grow-ok e u at _ _ _ _ _ (grow-length at _ _ (λ k q. mono-pull c u q (k * 8) _ λ _. omega arith) λ k q z. grow-span q (k * 8) _ _ (λ v. refl) (λ v. grow-none e u))
     grow (small m t) x at l h =
-        let mo : Rises (λ k q. pull c u q (k * 8) (λ v. ok (q + k * 8) (rec t (x .0) (word v) 0 ∷ []) 0)) = λ k q. mono-pull c u q (k * 8) _ λ _. omega arith in
+        let mo : Rises (λ k q. pull c u q (k * 8) (λ v. ok (q + k * 8) (rec t (x .0) (word v) 0 at ∷ []) 0)) = λ k q. mono-pull c u q (k * 8) _ λ _. omega arith in
         grow-ok e u at _ _ _ _ _
         (grow-pull at 1 _ _ (λ y. mono-fork (at + 1) y _ _ (mono-pull c u (at + 1) 6 _ λ v. omega arith) (mono-length c u (at + 1) _ mo)) λ y z.
         grow-fork e u y (grow-pull (at + 1) 6 _ _ (λ v. omega arith) (λ v _. grow-none e u)) (grow-length (at + 1) _ _ mo λ k q z. grow-span q (k * 8) _ _ (λ v. refl) (λ v. grow-none e u)))

@@ -59,7 +59,7 @@ settle-full c p m R w h = rw (lt-leb (need R) (length w) h)
 flat-need : (R : List Rec) → length (flat R) ≡ need R
 unfolding flat need
 flat-need [] = refl
-flat-need (rec t m v s ∷ R) = omega (arith, flat-need R)
+flat-need (rec t m v s q ∷ R) = omega (arith, flat-need R)
 
 settle-kept : (r : Reply) (w : List ℕ) → length (settle r w .1) ≡ length w
 unfolding settle

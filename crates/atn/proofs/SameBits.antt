@@ -98,7 +98,7 @@ module _ (b c : ℕ → ℕ) where
     same (num t lo hi) x e at h = pull-same e h at _ λ v _. refl
     same (listed t hi xs) x e at h = pull-same e h at _ λ v _. refl
     same (name t hi) x e at h = pull-same e h at _ λ v _. refl
-    same (text t n y lo hi) x e at h = let w : ℕ = width (n - 1) in sized-same e h at lo hi λ k q l. letters-same e h w n k q _ _ (λ u. ap (λ (cs : List ℕ). ok (q + k * w) (lettered t y (x .0) cs) 0) (same-units w q k (agree-le h u))) l
+    same (text t n y lo hi) x e at h = let w : ℕ = width (n - 1) in sized-same e h at lo hi λ k q l. letters-same e h w n k q _ _ (λ u. ap (λ (cs : List ℕ). ok (q + k * w) (lettered t y (x .0) at cs) 0) (same-units w q k (agree-le h u))) l
     same (span t w lo hi) x e at h = sized-same e h at lo hi λ k q _. pull-same e h q (k * w) λ _ _. refl
     same (anySpan t w) x e at h = length-same e h 65537 at λ k q. pull-same e h q (k * w) λ _ _. refl
     same (skipped m) x e at h = then-same refl (λ p. length-same e h 65537 p λ k q. pull-same e h q (k * 8) λ _ _. refl)

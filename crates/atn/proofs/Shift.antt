@@ -1,8 +1,9 @@
--- A stretch of the frame, read by itself, gives what it gives in the frame, at places that are moved. This holds of the formats that tell no places.
+-- A stretch of the frame, read by itself, gives what it gives in the frame, at places that are moved. This holds of the formats that tell no spans.
 use mathlib.Core.Path.{_≡_, refl, sym, ap, _∙_, fun-ext}
 use mathlib.Core.Bool.{Bool, true, false, cond, _&&_}
 use mathlib.Core.List.{List, [], _∷_, _++_}
-use Prim.Native.Nat.{ℕ, zero, suc, _+_, _-_, _*_, _≤_, _<_}
+use Prim.Native.Nat.{ℕ, zero, suc, _+_, _-_, _*_, _/_, _≤_, _<_}
+use lib.ListN.{length, drop}
 use native.Mathlib.Nat.{add-assoc, add-suc, suc-mul, add-comm}
 use native.Mathlib.Omega.{arith}
 use lib.Dec.{leb, ltb, eqb}
@@ -11,19 +12,24 @@ use Rattle.x691.specs.Bits.{uint}
 use Rattle.x691.specs.Encoding.{width}
 use Rattle.x691.proofs.BitLaws.{uint-agree}
 use Rattle.atn.specs.Format.{Fmt, num, listed, name, text, span, anySpan, skipped, small, null, noted, placed, marked, refuse, element, ext, seq, loose, choice, many, inner, soft, lax}
-use Rattle.atn.specs.Format.{Flds, end, _⨾_, _⨾?_, orNote, unread, Alts, none-left, _∥_, Why, out, bad, lack, quit}
-use Rattle.atn.specs.Reading.{Rec, Ctx, Ans, ok, past, stop, glue, tardy, late, then, times, fork, guard, or, unless, over, fetch, pull, sized, letters, units, lettered, short, long, fragment, lengths, lengthThen, flags, unreadMarks, within, close, shut, softly, passOver, laxly, giveUp, read, readFields, readChoice}
+use Rattle.atn.specs.Format.{Flds, end, _⨾_, _⨾?_, orNote, unread, Alts, none-left, _∥_, Letters, first, numeric, Why, out, bad, lack, quit}
+use Rattle.atn.specs.Reading.{Rec, rec, Ctx, Ans, ok, past, stop, glue, tardy, late, then, times, fork, guard, or, unless, over, fetch, pull, sized, letters, units, packs, pack, coded, spaced, noneAbove, lettered, kept, short, long, fragment, lengths, lengthThen, flags, unreadMarks, within, close, shut, softly, passOver, laxly, giveUp, read, readFields, readChoice}
 use Rattle.atn.proofs.Steps.{fetch-go, fetch-no}
 use Rattle.atn.proofs.Reach.{split}
 use Rattle.atn.proofs.Inverse.{both}
 
--- the answer with its place moved by a
-unfoldable pub moved : ℕ → Ans → Ans
-moved a (ok p R m) = ok (a + p) R m
-moved a (past k p R m) = past k (a + p) R m
-moved a (stop w p R m) = stop w (a + p) R m
+-- the records with their fields a bits further on
+unfoldable pub displaced : ℕ → List Rec → List Rec
+displaced a [] = []
+displaced a (rec t m v s q ∷ R) = rec t m v s (a + q) ∷ displaced a R
 
--- no record of the format is a place in the frame
+-- the answer with its places moved by a
+unfoldable pub moved : ℕ → Ans → Ans
+moved a (ok p R m) = ok (a + p) (displaced a R) m
+moved a (past k p R m) = past k (a + p) (displaced a R) m
+moved a (stop w p R m) = stop w (a + p) (displaced a R) m
+
+-- no value that the format tells is a place in the frame
 unfoldable mutual
   pub placeless : Fmt → Bool
   placeless (num t lo hi) = true
@@ -65,29 +71,58 @@ unfoldable mutual
 never : {A : Type 0} → false ≡ true → A
 never h = let z : _≡_ {A = ℕ} 0 1 = cc in absurd (omega arith)
 
-moved-glue : (a : ℕ) (R : List Rec) (m : ℕ) (x : Ans) → glue R m (moved a x) ≡ moved a (glue R m x)
-unfolding moved glue
-moved-glue a R m (ok p S n) = refl
-moved-glue a R m (past k p S n) = refl
-moved-glue a R m (stop w p S n) = refl
+pub displaced-append : (a : ℕ) (R S : List Rec) → displaced a (R ++ S) ≡ displaced a R ++ displaced a S
+unfolding displaced
+displaced-append a [] S = refl
+displaced-append a (rec t m v s q ∷ R) S = rw (displaced-append a R S)
 
-moved-late : (a k : ℕ) (R : List Rec) (m : ℕ) (x : Ans) → late k R m (moved a x) ≡ moved a (late k R m x)
+displaced-packs : (a t m q n k : ℕ) (cs : List ℕ) → displaced a (packs t m q n k cs) ≡ packs t m (a + q) n k cs
+unfolding displaced packs
+displaced-packs a t m q n zero cs = refl
+displaced-packs a t m q n (suc k) cs = rw (displaced-packs a t m q n k (drop 8 cs))
+
+displaced-pack : (a t m q : ℕ) (cs : List ℕ) → displaced a (pack t m q cs) ≡ pack t m (a + q) cs
+unfolding pack
+displaced-pack a t m q cs = displaced-packs a t m q (length cs) ((length cs + 7) / 8) cs
+
+displaced-text : (a t : ℕ) (c : Letters) (m q : ℕ) (us : List ℕ) → displaced a (lettered t c m q us) ≡ lettered t c m (a + q) us
+unfolding displaced
+displaced-text a t (first c) m q us = displaced-pack a t m q (coded c us)
+displaced-text a t (numeric v) m q us =
+    displaced-append a (pack t m q (coded 48 us)) _ ∙ rw (displaced-pack a t m q (coded 48 us)) (ap (λ R. pack t m (a + q) (coded 48 us) ++ R) (go (noneAbove 10 us)))
+  where
+    go : (y : Bool) → displaced a (cond y (pack v m q (spaced us)) []) ≡ cond y (pack v m (a + q) (spaced us)) []
+    go true = displaced-pack a v m q (spaced us)
+    go false = refl
+
+moved-glue : (a : ℕ) (R : List Rec) (m : ℕ) (x : Ans) → glue (displaced a R) m (moved a x) ≡ moved a (glue R m x)
+unfolding moved glue
+moved-glue a R m (ok p S n) = rw (displaced-append a R S)
+moved-glue a R m (past k p S n) = rw (displaced-append a R S)
+moved-glue a R m (stop w p S n) = rw (displaced-append a R S)
+
+moved-late : (a k : ℕ) (R : List Rec) (m : ℕ) (x : Ans) → late k (displaced a R) m (moved a x) ≡ moved a (late k R m x)
 unfolding moved late
-moved-late a k R m (ok p S n) = refl
-moved-late a k R m (past l p S n) = refl
-moved-late a k R m (stop w p S n) = refl
+moved-late a k R m (ok p S n) = rw (displaced-append a R S)
+moved-late a k R m (past l p S n) = rw (displaced-append a R S)
+moved-late a k R m (stop w p S n) = rw (displaced-append a R S)
+
+displaced-kept : (a : ℕ) (r : Bool) (R : List Rec) → kept r (displaced a R) ≡ displaced a (kept r R)
+unfolding kept displaced
+displaced-kept a true R = refl
+displaced-kept a false R = refl
 
 moved-soft : (a k : ℕ) (r : Bool) (x : Ans) → softly k r (moved a x) ≡ moved a (softly k r x)
 unfolding moved softly passOver
 moved-soft a k r (ok p R m) = refl
 moved-soft a k r (past l p R m) = refl
-moved-soft a k r (stop (out l) p R m) = refl
-moved-soft a k r (stop bad p R m) = refl
+moved-soft a k r (stop (out l) p R m) = rw (displaced-kept a r R)
+moved-soft a k r (stop bad p R m) = rw (displaced-kept a r R)
 moved-soft a k r (stop lack p R m) = refl
 moved-soft a k r (stop (quit o j l) p R m) = refl
 
 moved-lax : (a k : ℕ) (j : Bool) (x : Ans) → laxly k j (moved a x) ≡ moved a (laxly k j x)
-unfolding moved laxly giveUp
+unfolding moved displaced laxly giveUp
 moved-lax a k j (ok p R m) = refl
 moved-lax a k j (past l p R m) = refl
 moved-lax a k j (stop (out l) p R m) = refl
@@ -119,7 +154,7 @@ then-moved a (past l q R m) k k′ h = rw (h q) (moved-late a l R m (k q))
 then-moved a (stop w q R m) k k′ h = refl
 
 -- in a row: what was read before is known
-ok-moved : (a q : ℕ) (R : List Rec) (m : ℕ) (k k′ : ℕ → Ans) {p : ℕ} → p ≡ a + q → ((q : ℕ) → k′ (a + q) ≡ moved a (k q)) → then (ok p R m) k′ ≡ moved a (then (ok q R m) k)
+ok-moved : (a q : ℕ) (R : List Rec) (m : ℕ) (k k′ : ℕ → Ans) {p : ℕ} → p ≡ a + q → ((q : ℕ) → k′ (a + q) ≡ moved a (k q)) → then (ok p (displaced a R) m) k′ ≡ moved a (then (ok q R m) k)
 unfolding moved
 ok-moved a q R m k k′ z h = rw z (then-moved a (ok q R m) k k′ h)
 
@@ -129,7 +164,7 @@ fork-moved a zero y z p q = p
 fork-moved a (suc x) y z p q = q
 
 guard-moved : (a : ℕ) (t : Bool) (q m : ℕ) (z : Ans) {z′ : Ans} {p : ℕ} → p ≡ a + q → z′ ≡ moved a z → guard t p m z′ ≡ moved a (guard t q m z)
-unfolding guard moved
+unfolding guard moved displaced
 guard-moved a true q m z l h = h
 guard-moved a false q m z l h = rw l
 
@@ -170,19 +205,19 @@ module _ (b c : ℕ → ℕ) (a L : ℕ) (agree : (i : ℕ) → i < L → b i �
         (λ l. fetch-no c (a + e) (a + at) n k′ z′ (omega arith) ∙ h l ∙ rw (fetch-no b e at n k z l))
 
     pull-moved : (at n : ℕ) (k k′ : ℕ → Ans) → ((v : ℕ) → at + n ≤ e → k′ v ≡ moved a (k v)) → pull c (a + e) (a + at) n k′ ≡ moved a (pull b e at n k)
-    unfolding pull moved
+    unfolding pull moved displaced
     pull-moved at n k k′ g =
         let z : a + at + n - (a + e) ≡ at + n - e = omega arith in
         fetch-moved at n k k′ (stop (out (at + n - e)) at [] 0) (stop (out (a + at + n - (a + e))) (a + at) [] 0) g (λ _. rw z)
 
     sized-moved : (at lo hi : ℕ) (k k′ : ℕ → ℕ → Ans) → ((n q : ℕ) → q ≤ e → k′ n (a + q) ≡ moved a (k n q)) → sized c (a + e) (a + at) lo hi k′ ≡ moved a (sized b e at lo hi k)
-    unfolding sized then
+    unfolding sized then displaced
     sized-moved at lo hi k k′ g =
         let w : ℕ = width (hi - lo) in
         pull-moved at w _ _ λ v l. rw (add-assoc a at w) (ap (glue [] (over hi (lo + v))) (g (lo + v) (at + w) l) ∙ moved-glue a [] (over hi (lo + v)) (k (lo + v) (at + w)))
 
     length-moved : (g at : ℕ) (k k′ : ℕ → ℕ → Ans) → ((n q : ℕ) → k′ n (a + q) ≡ moved a (k n q)) → lengths g c (a + e) (a + at) k′ ≡ moved a (lengths g b e at k)
-    unfolding lengths short long fragment moved
+    unfolding lengths short long fragment moved displaced
     length-moved zero at k k′ h = refl
     length-moved (suc g) at k k′ h =
         pull-moved at 1 _ _ λ x _.
@@ -193,7 +228,7 @@ module _ (b c : ℕ → ℕ) (a L : ℕ) (agree : (i : ℕ) → i < L → b i �
         guard-moved a (leb 1 m) (at + 8) 0 _ refl (guard-moved a (leb m 4) (at + 8) 0 _ refl (ok-moved a (at + 8) [] _ _ _ refl (λ q. length-moved g q _ _ (λ n p. h (m * 16384 + n) p))))))))
 
     letters-moved : (w n i at : ℕ) (k k′ : ℕ → Ans) → (at + i * w ≤ e → k′ (a + (at + i * w)) ≡ moved a (k (at + i * w))) → at ≤ e → letters c (a + e) w n i (a + at) k′ ≡ moved a (letters b e w n i at k)
-    unfolding letters then moved
+    unfolding letters then moved displaced
     letters-moved w n zero at k k′ h l = (let z : at + 0 * w ≡ at = omega arith in rw z at (h (omega arith)))
     letters-moved w n (suc i) at k k′ h l =
         let m : suc i * w ≡ w + i * w = suc-mul i w ∙ add-comm (i * w) w in
@@ -201,7 +236,7 @@ module _ (b c : ℕ → ℕ) (a L : ℕ) (agree : (i : ℕ) → i < L → b i �
         pull-moved at w _ _ λ u y. rw (add-assoc a at w) (ap (glue [] (unless (ltb u n) 1)) (letters-moved w n i (at + w) k k′ (λ z. rw s at (h (omega arith))) y) ∙ moved-glue a [] (unless (ltb u n) 1) (letters b e w n i (at + w) k))
 
 times-moved : (a : ℕ) (r r′ : ℕ → ℕ → Ans) → ((i q : ℕ) → r′ i (a + q) ≡ moved a (r i q)) → (i n at : ℕ) → times r′ i n (a + at) ≡ moved a (times r i n at)
-unfolding times moved
+unfolding times moved displaced
 times-moved a r r′ h i zero at = refl
 times-moved a r r′ h i (suc n) at = rw (h i at) (then-moved a (r i at) _ _ (λ q. times-moved a r r′ h (suc i) n q))
 
@@ -217,7 +252,7 @@ within-moved b c a e h i = go (ltb i e) refl
 ---------------------------------------------------------------- the theorem
 
 mutual
-  unfolding read moved placeless flags lengthThen
+  unfolding read moved displaced placeless flags lengthThen
 
   pub shift : (b c : ℕ → ℕ) (a L : ℕ) → ((i : ℕ) → i < L → b i ≡ c (a + i)) → (f : Fmt) (x : Ctx) (e at : ℕ) → placeless f ≡ true → e ≤ L → read f x c (a + e) (a + at) ≡ moved a (read f x b e at)
   shift b c a L h (num t lo hi) x e at z l = pull-moved b c a L h e l at _ _ _ λ v _. rw (add-assoc a at _)
@@ -226,7 +261,7 @@ mutual
   shift b c a L h (text t n y lo hi) x e at z l =
       let w : ℕ = width (n - 1) in
       sized-moved b c a L h e l at lo hi _ _ λ k q i.
-      letters-moved b c a L h e l w n k q _ _ (λ u. ap (λ (cs : List ℕ). ok (a + (q + k * w)) (lettered t y (x .0) cs) 0) (sym (units-moved b c a L h w q k (omega arith)))) i
+      letters-moved b c a L h e l w n k q _ _ (λ u. rw (displaced-text a t y (x .0) at (units b w q k)) (ap (λ (cs : List ℕ). ok (a + (q + k * w)) (lettered t y (x .0) (a + at) cs) 0) (sym (units-moved b c a L h w q k (omega arith))))) i
   shift b c a L h (span t w lo hi) x e at z l = never z
   shift b c a L h (anySpan t w) x e at z l = never z
   shift b c a L h (skipped m) x e at z l = ok-moved a at [] _ _ _ refl (λ p. length-moved b c a L h e l 65537 p _ _ λ k q. pull-moved b c a L h e l q (k * 8) _ _ λ _ _. rw (add-assoc a q (k * 8)))

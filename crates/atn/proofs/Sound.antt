@@ -112,12 +112,12 @@ module _ (b : ℕ → ℕ) (bit : (i : ℕ) → b i < 2) where
       }
 
   -- an optional part, whose absence is told by Z
-  abbrev FoundAny : List Rec → Fmt → Flds → Ctx → ℕ → ℕ → ℕ → ℕ → List Rec → Type 0
+  abbrev FoundAny : (ℕ → List Rec) → Fmt → Flds → Ctx → ℕ → ℕ → ℕ → ℕ → List Rec → Type 0
   FoundAny Z f fs x e q at p R =
       Found (λ vs. Spells b q (preamble (typeOf f &? membersOf fs) vs) × AllInRange (typeOf f &? membersOf fs) vs) (λ vs. encodeMembers (typeOf f &? membersOf fs) vs)
-      (λ vs y. tellAny (λ v. tell f v x y) Z (vs .0) ++ tellFields fs (vs .1) x (y + length (ifAny (λ v. encode (typeOf f) v) (vs .0)))) b e at p R
+      (λ vs y. tellAny (λ v. tell f v x y) (Z y) (vs .0) ++ tellFields fs (vs .1) x (y + length (ifAny (λ v. encode (typeOf f) v) (vs .0)))) b e at p R
 
-  found-some : (Z : List Rec) (f : Fmt) (fs : Flds) (q : ℕ) (x : Ctx) {e at mid p : ℕ} {R₁ R₂ R : List Rec} → b q ≡ 1 → FoundF f x e at mid R₁ → FoundFs fs x e (suc q) mid p R₂ → R ≡ R₁ ++ R₂ → FoundAny Z f fs x e q at p R
+  found-some : (Z : ℕ → List Rec) (f : Fmt) (fs : Flds) (q : ℕ) (x : Ctx) {e at mid p : ℕ} {R₁ R₂ R : List Rec} → b q ≡ 1 → FoundF f x e at mid R₁ → FoundFs fs x e (suc q) mid p R₂ → R ≡ R₁ ++ R₂ → FoundAny Z f fs x e q at p R
   unfolding preamble encodeMembers flag ifAny tellAny Spells
   found-some Z f fs q x {at = at} one y z r =
       let a = encode (typeOf f) (y .val) in
@@ -131,7 +131,7 @@ module _ (b : ℕ → ℕ) (bit : (i : ℕ) → b i < 2) where
         fits = z .fits;
       }
 
-  found-none : (Z : List Rec) (f : Fmt) (fs : Flds) (q : ℕ) (x : Ctx) {e at p : ℕ} {R₂ R : List Rec} → b q ≡ 0 → FoundFs fs x e (suc q) at p R₂ → R ≡ Z ++ R₂ → FoundAny Z f fs x e q at p R
+  found-none : (Z : ℕ → List Rec) (f : Fmt) (fs : Flds) (q : ℕ) (x : Ctx) {e at p : ℕ} {R₂ R : List Rec} → b q ≡ 0 → FoundFs fs x e (suc q) at p R₂ → R ≡ Z at ++ R₂ → FoundAny Z f fs x e q at p R
   unfolding preamble encodeMembers flag ifAny tellAny Spells
   found-none Z f fs q x {at = at} off z r =
       record { val = (none, z .val); good = ((off, z .good .0), (tt, z .good .1)); spelt = z .spelt; next = z .next; recs = r ∙ rw (z .recs, add-zero at); fits = z .fits }
@@ -160,7 +160,7 @@ module _ (b : ℕ → ℕ) (bit : (i : ℕ) → b i < 2) where
       rw (y .3) (found-seq fs x (g (y .1) (y .2)))
 
   found-choice : (t : ℕ) (fs : Alts) (x : Ctx) {e at p : ℕ} {R : List Rec} → let w = width (highest (alternativesOf fs)) in FoundAlt fs (uint b at w) x e (at + w) p R
-      → FoundF (choice t fs) x e at p (rec t (x .0) (uint b at w) 0 ∷ R)
+      → FoundF (choice t fs) x e at p (rec t (x .0) (uint b at w) 0 at ∷ R)
   unfolding encode tell
   found-choice t fs x {at = at} y =
       let w : ℕ = width (highest (alternativesOf fs)) in
@@ -214,7 +214,7 @@ module _ (b : ℕ → ℕ) (bit : (i : ℕ) → b i < 2) where
   units-all w at zero = tt
   units-all w at (suc i) = (uint-lt b bit at w, units-all w (at + w) i)
 
-  found-any-span : (t w : ℕ) (x : Ctx) {e at q k p : ℕ} {R : List Rec} → k < 16384 → Spells b at (lengthBits k) → q ≡ at + length (lengthBits k) → p ≡ q + k * w → p ≤ e → R ≡ spanned t (x .0) q (k * w) → FoundF (anySpan t w) x e at p R
+  found-any-span : (t w : ℕ) (x : Ctx) {e at q k p : ℕ} {R : List Rec} → k < 16384 → Spells b at (lengthBits k) → q ≡ at + length (lengthBits k) → p ≡ q + k * w → p ≤ e → R ≡ spanned t (x .0) at q (k * w) → FoundF (anySpan t w) x e at p R
   unfolding encode tell
   found-any-span t w x {e = e} {at = at} {q = q} {k = k} s b₁ y z u r =
       let n : ℕ = 2 ^ w in
@@ -230,8 +230,8 @@ module _ (b : ℕ → ℕ) (bit : (i : ℕ) → b i < 2) where
       }
 
   -- a record before the part
-  found-noted : (r : Rec) (f : Fmt) (x : Ctx) {e at p : ℕ} {U R : List Rec} → FoundF f x e at p U → R ≡ r ∷ U → Found (λ v. InRange (typeOf f) v) (λ v. encode (typeOf f) v) (λ v q. r ∷ tell f v x q) b e at p R
-  found-noted r f x y z = record { val = y .val; good = y .good; spelt = y .spelt; next = y .next; recs = z ∙ ap (λ (l : List Rec). r ∷ l) (y .recs); fits = y .fits }
+  found-noted : (r : ℕ → Rec) (f : Fmt) (x : Ctx) {e at p : ℕ} {U R : List Rec} → FoundF f x e at p U → R ≡ r at ∷ U → Found (λ v. InRange (typeOf f) v) (λ v. encode (typeOf f) v) (λ v q. r q ∷ tell f v x q) b e at p R
+  found-noted r f x {at = at} y z = record { val = y .val; good = y .good; spelt = y .spelt; next = y .next; recs = z ∙ ap (λ (l : List Rec). r at ∷ l) (y .recs); fits = y .fits }
 
   abbrev pub Sound : Fmt → Type 0
   Sound f = (x : Ctx) (e at p : ℕ) (R : List Rec) → read f x b e at ≡ ok p R 0 → at ≤ e → FoundF f x e at p R
@@ -293,10 +293,10 @@ module _ (b : ℕ → ℕ) (bit : (i : ℕ) → b i < 2) where
     sound (small m t) x e at p R h l = never-after m at [] _ h
     sound null x e at p R h l = let z : p ≡ at = cc in record { val = tt; good = tt; spelt = tt; next = omega arith; recs = cc; fits = omega arith }
     sound (noted t v s f) x e at p R h l =
-        let y = then-ok at (rec t (x .0) v s ∷ []) 0 (λ q. read f x b e q) h in
+        let y = then-ok at (rec t (x .0) v s at ∷ []) 0 (λ q. read f x b e q) h in
         found-noted (rec t (x .0) v s) f x (sound f x e at p (y .1) (y .2) l) (y .3)
     sound (placed t f) x e at p R h l =
-        let y = then-ok at (rec t (x .0) (x .1) 0 ∷ []) 0 (λ q. read f x b e q) h in
+        let y = then-ok at (rec t (x .0) (x .1) 0 at ∷ []) 0 (λ q. read f x b e q) h in
         found-noted (rec t (x .0) (x .1) 0) f x (sound f x e at p (y .1) (y .2) l) (y .3)
     sound (marked m) x e at p R h l = never-marked m h
     sound (refuse w m) x e at p R h l = never h
@@ -320,7 +320,7 @@ module _ (b : ℕ → ℕ) (bit : (i : ℕ) → b i < 2) where
         let w : ℕ = width (highest (alternativesOf fs)) in
         let i : ℕ = uint b at w in
         let y = pull-inv b e at w _ h in
-        let z = then-ok (at + w) (rec t (x .0) i 0 ∷ []) 0 (λ q. readChoice fs i x b e q) (y .1) in
+        let z = then-ok (at + w) (rec t (x .0) i 0 at ∷ []) 0 (λ q. readChoice fs i x b e q) (y .1) in
         rw (z .3) (found-choice t fs x (soundChoice fs i x e (at + w) p (z .1) (z .2) (omega arith)))
     sound (many lo hi f) x e at p R h l =
         let w : ℕ = width (hi - lo) in
@@ -348,17 +348,17 @@ module _ (b : ℕ → ℕ) (bit : (i : ℕ) → b i < 2) where
         found-must f fs q x z (soundFields fs x e q (t .mid) p (t .R₂) (t .second) (z .fits)) (t .recs)
     soundFields (f ⨾? fs) x e q at p R h l =
         elim (fork-inv (b q) _ _ h) [
-          | inl y ↦ found-none [] f fs q x (y .0) (soundFields fs x e (suc q) at p R (y .1) l) refl
+          | inl y ↦ found-none (λ _. []) f fs q x (y .0) (soundFields fs x e (suc q) at p R (y .1) l) refl
           | inr y ↦
               let t : Two (read f x b e at) (λ y. readFields fs x b e (suc q) y) p R = then-inv (read f x b e at) (λ y. readFields fs x b e (suc q) y) (y .2) in
               let z : FoundF f x e at (t .mid) (t .R₁) = sound f x e at (t .mid) (t .R₁) (t .first) l in
-              found-some [] f fs q x (is-one b bit q (y .1)) z (soundFields fs x e (suc q) (t .mid) p (t .R₂) (t .second) (z .fits)) (t .recs)
+              found-some (λ _. []) f fs q x (is-one b bit q (y .1)) z (soundFields fs x e (suc q) (t .mid) p (t .R₂) (t .second) (z .fits)) (t .recs)
         ]
     soundFields (orNote t v s f fs) x e q at p R h l =
-        let n : List Rec = rec t (x .0) v s ∷ [] in
+        let n : ℕ → List Rec = λ p. rec t (x .0) v s p ∷ [] in
         elim (fork-inv (b q) _ _ h) [
           | inl y ↦
-              let t = then-ok at n 0 (λ y. readFields fs x b e (suc q) y) (y .1) in
+              let t = then-ok at (n at) 0 (λ y. readFields fs x b e (suc q) y) (y .1) in
               found-none n f fs q x (y .0) (soundFields fs x e (suc q) at p (t .1) (t .2) l) (t .3)
           | inr y ↦
               let t : Two (read f x b e at) (λ y. readFields fs x b e (suc q) y) p R = then-inv (read f x b e at) (λ y. readFields fs x b e (suc q) y) (y .2) in
@@ -368,7 +368,7 @@ module _ (b : ℕ → ℕ) (bit : (i : ℕ) → b i < 2) where
     soundFields (unread t fs) x e q at p R h l =
         elim (fork-inv (b q) _ _ h) [
           | inl y ↦ found-unread t fs q x (y .0) (soundFields fs x e (suc q) at p R (y .1) l)
-          | inr y ↦ never-after 4 at (rec t (x .0) 1 0 ∷ []) (λ y. readFields fs x b e (suc q) y) (y .2)
+          | inr y ↦ never-after 4 at (rec t (x .0) 1 0 at ∷ []) (λ y. readFields fs x b e (suc q) y) (y .2)
         ]
 
     soundChoice : (fs : Alts) (i : ℕ) (x : Ctx) (e at p : ℕ) (R : List Rec) → readChoice fs i x b e at ≡ ok p R 0 → at ≤ e → FoundAlt fs i x e at p R

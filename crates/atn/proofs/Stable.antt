@@ -189,19 +189,19 @@ module _ (b c : ℕ → ℕ) where
     rel (text t n y lo hi) x e u at h =
         let w : ℕ = width (n - 1) in
         rel-sized b c e u at lo hi _ _ (λ k q. mono-letters b e w n k q _ λ p. omega arith) λ k q l a.
-        rel-letters b c e u w n k q _ _ (λ p. omega arith) (λ z a′. rel-eq b c e u (ap (λ (cs : List ℕ). ok (q + k * w) (lettered t y (x .0) cs) 0) (sym (same-units b c w q k a′))) z) l a
+        rel-letters b c e u w n k q _ _ (λ p. omega arith) (λ z a′. rel-eq b c e u (ap (λ (cs : List ℕ). ok (q + k * w) (lettered t y (x .0) at cs) 0) (sym (same-units b c w q k a′))) z) l a
     rel (span t w lo hi) x e u at h = rel-sized b c e u at lo hi _ _ (λ k q. mono-pull b e q (k * w) _ λ _. omega arith) λ k q l a. rel-span b c e u q (k * w) _
     rel (anySpan t w) x e u at h = rel-length b c e u at _ _ (λ k q. mono-pull b e q (k * w) _ λ _. omega arith) (λ k q l. rel-span b c e u q (k * w) _) h
     rel (skipped m) x e u at h =
         let mo : Rises (λ k q. pull b e q (k * 8) (λ _. ok (q + k * 8) [] 0)) = λ k q. mono-pull b e q (k * 8) _ λ _. omega arith in
         rel-then b c e u _ _ _ _ (rel-eq b c e u refl h) (λ p. mono-length b e p _ mo) λ p l _. rel-length b c e u p _ _ mo (λ k q z. rel-span b c e u q (k * 8) _) l
     rel (small m t) x e u at h =
-        let mo : Rises (λ k q. pull b e q (k * 8) (λ v. ok (q + k * 8) (rec t (x .0) (word v) 0 ∷ []) 0)) = λ k q. mono-pull b e q (k * 8) _ λ _. omega arith in
-        let on : (p y : ℕ) → p + 1 ≤ reach (fork y (pull b e (p + 1) 6 (λ v. ok (p + 7) (rec t (x .0) v 0 ∷ []) 0)) (lengthThen b e (p + 1) (λ k q. pull b e q (k * 8) (λ v. ok (q + k * 8) (rec t (x .0) (word v) 0 ∷ []) 0)))) = λ p y. mono-fork (p + 1) y _ _ (mono-pull b e (p + 1) 6 _ λ v. omega arith) (mono-length b e (p + 1) _ mo) in
+        let mo : (p : ℕ) → Rises (λ k q. pull b e q (k * 8) (λ v. ok (q + k * 8) (rec t (x .0) (word v) 0 p ∷ []) 0)) = λ p k q. mono-pull b e q (k * 8) _ λ _. omega arith in
+        let on : (p y : ℕ) → p + 1 ≤ reach (fork y (pull b e (p + 1) 6 (λ v. ok (p + 7) (rec t (x .0) v 0 p ∷ []) 0)) (lengthThen b e (p + 1) (λ k q. pull b e q (k * 8) (λ v. ok (q + k * 8) (rec t (x .0) (word v) 0 p ∷ []) 0)))) = λ p y. mono-fork (p + 1) y _ _ (mono-pull b e (p + 1) 6 _ λ v. omega arith) (mono-length b e (p + 1) _ (mo p)) in
         rel-then b c e u _ _ _ _ (rel-eq b c e u refl h) (λ p. mono-pull b e p 1 _ (on p)) λ p l _.
         rel-pull b c e u p 1 _ _ (on p) λ y l₁ _.
         rel-fork b c e u y (rel-pull b c e u (p + 1) 6 _ _ (λ v. omega arith) λ v l₂ _. rel-eq b c e u refl (omega arith))
-        (rel-length b c e u (p + 1) _ _ mo (λ k q z. rel-pull b c e u q (k * 8) _ _ (λ _. omega arith) λ v l₃ _. rel-eq b c e u refl l₃) l₁)
+        (rel-length b c e u (p + 1) _ _ (mo p) (λ k q z. rel-pull b c e u q (k * 8) _ _ (λ _. omega arith) λ v l₃ _. rel-eq b c e u refl l₃) l₁)
     rel null x e u at h = rel-eq b c e u refl h
     rel (noted t v s f) x e u at h = rel-then b c e u _ _ _ _ (rel-eq b c e u refl h) (λ p. mono b f x e p) (λ p l _. rel f x e u p l)
     rel (placed t f) x e u at h = rel-then b c e u _ _ _ _ (rel-eq b c e u refl h) (λ p. mono b f x e p) (λ p l _. rel f x e u p l)

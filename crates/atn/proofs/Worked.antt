@@ -21,7 +21,7 @@ use Rattle.atn.specs.Tags as tag
 
 valuesOf : ℕ → List Rec → List ℕ
 valuesOf t [] = []
-valuesOf t (rec u n v s ∷ R) = cond (eqb t u) (v ∷ valuesOf t R) (valuesOf t R)
+valuesOf t (rec u n v s q ∷ R) = cond (eqb t u) (v ∷ valuesOf t R) (valuesOf t R)
 
 of-reply : (List Rec → ℕ → Written) → Reply → Written
 of-reply h (accept c p m R) = h R m
@@ -34,7 +34,7 @@ pub one : Ans → Written
 unfolding only valuesOf of-reply reply stopped
 one a = of-reply (λ R m. only (valuesOf 0 R) m) (reply a)
 
-pub one-told : (p v m : ℕ) → one (ok p (rec 0 0 v 0 ∷ []) m) ≡ is v m
+pub one-told : (p v m : ℕ) → one (ok p (rec 0 0 v 0 0 ∷ []) m) ≡ is v m
 unfolding one only valuesOf of-reply reply
 one-told p v m = refl
 
@@ -52,7 +52,7 @@ one-lack p m R = refl
 
 -- a number is told
 abbrev pub alone : ℕ → ℕ → ℕ → Ans
-alone n e p = ok p (rec 0 0 n 0 ∷ []) 0
+alone n e p = ok p (rec 0 0 n 0 0 ∷ []) 0
 
 -- a format reads a string of bits
 readBits : Fmt → List ℕ → Reply

@@ -65,11 +65,11 @@ Outcome = Answer × List ℕ
 
 unfoldable pub flat : List Rec → List ℕ
 flat [] = []
-flat (rec t m v s ∷ R) = t ∷ m ∷ v ∷ s ∷ flat R
+flat (rec t m v s q ∷ R) = t ∷ m ∷ v ∷ s ∷ q ∷ flat R
 
--- the words needed
+-- the words needed, five to a record
 unfoldable pub need : List Rec → ℕ
-need R = length R * 4
+need R = length R * 5
 
 -- 7 where the records do not fit; records fill the front, words after them stay; a refusal leaves all
 unfoldable pub settle : Reply → List ℕ → Outcome

@@ -14,9 +14,9 @@ use Rattle.atn.specs.Format.{Flds, end, _⨾_, _⨾?_, orNote, unread, A
 
 ---------------------------------------------------------------- records and marks
 
--- tag, element number, value, second number
+-- tag, element number, value, second number, and the bit where the field starts; a field without bits of its own has the place where the reading stood
 pub data Rec : Type 0 where
-  rec : ℕ → ℕ → ℕ → ℕ → Rec
+  rec : ℕ → ℕ → ℕ → ℕ → ℕ → Rec
 
 -- what a part inherits: the number of the element that it stands in, 0 outside elements, and its place in the nearest list, from 1
 abbrev pub Ctx : Type 0
@@ -48,13 +48,13 @@ octets zero cs = 0
 octets (suc k) [] = 0
 octets (suc k) (c ∷ cs) = c * 256 ^ k + octets k cs
 
--- k records of a text of n characters, eight to a record, the second number its whole length
-unfoldable pub packs : ℕ → ℕ → ℕ → ℕ → List ℕ → List Rec
-packs t m n zero cs = []
-packs t m n (suc k) cs = rec t m (octets 8 cs) n ∷ packs t m n k (drop 8 cs)
+-- k records of a text of n characters that starts at the place q, eight to a record, the second number its whole length
+unfoldable pub packs : ℕ → ℕ → ℕ → ℕ → ℕ → List ℕ → List Rec
+packs t m q n zero cs = []
+packs t m q n (suc k) cs = rec t m (octets 8 cs) n q ∷ packs t m q n k (drop 8 cs)
 
-unfoldable pub pack : ℕ → ℕ → List ℕ → List Rec
-pack t m cs = packs t m (length cs) ((length cs + 7) / 8) cs
+unfoldable pub pack : ℕ → ℕ → ℕ → List ℕ → List Rec
+pack t m q cs = packs t m q (length cs) ((length cs + 7) / 8) cs
 
 -- the units of an alphabet as characters, the first of them with code c
 unfoldable pub coded : ℕ → List ℕ → List ℕ
@@ -71,15 +71,15 @@ unfoldable pub noneAbove : ℕ → List ℕ → Bool
 noneAbove n [] = true
 noneAbove n (u ∷ us) = leb u n && noneAbove n us
 
--- the records of a text by its units
-abbrev pub lettered : ℕ → Letters → ℕ → List ℕ → List Rec
-lettered t (first c) m us = pack t m (coded c us)
-lettered t (numeric v) m us = pack t m (coded 48 us) ++ cond (noneAbove 10 us) (pack v m (spaced us)) []
+-- the records of a text by its units, and the place where it starts
+abbrev pub lettered : ℕ → Letters → ℕ → ℕ → List ℕ → List Rec
+lettered t (first c) m q us = pack t m q (coded c us)
+lettered t (numeric v) m q us = pack t m q (coded 48 us) ++ cond (noneAbove 10 us) (pack v m q (spaced us)) []
 
--- a span that is not empty: its first bit in the frame, and the number of its bits
-unfoldable pub spanned : ℕ → ℕ → ℕ → ℕ → List Rec
-spanned t m q zero = []
-spanned t m q (suc k) = rec t m q (suc k) ∷ []
+-- a span that is not empty: its first bit in the frame, and the number of its bits; its field starts at `at`
+unfoldable pub spanned : ℕ → ℕ → ℕ → ℕ → ℕ → List Rec
+spanned t m at q zero = []
+spanned t m at q (suc k) = rec t m q (suc k) at ∷ []
 
 ---------------------------------------------------------------- answers of a reading
 
@@ -244,24 +244,24 @@ laxly k j (stop w p R m) = giveUp w k j p R m
 -- presence bits are taken one after another, so that the first that passes the end lacks 1
 unfoldable mutual
   pub read : Fmt → Ctx → (ℕ → ℕ) → ℕ → ℕ → Ans
-  read (num t lo hi) x b e at = let w : ℕ = width (extent lo hi) in pull b e at w λ v. ok (at + w) (rec t (x .0) (word (lo + v)) 0 ∷ []) (over (extent lo hi) v)
-  read (listed t hi xs) x b e at = pull b e at (width hi) λ v. ok (at + width hi) (rec t (x .0) v 0 ∷ []) (unless (leb v hi && member v xs) 1)
+  read (num t lo hi) x b e at = let w : ℕ = width (extent lo hi) in pull b e at w λ v. ok (at + w) (rec t (x .0) (word (lo + v)) 0 at ∷ []) (over (extent lo hi) v)
+  read (listed t hi xs) x b e at = pull b e at (width hi) λ v. ok (at + width hi) (rec t (x .0) v 0 at ∷ []) (unless (leb v hi && member v xs) 1)
   read (name t hi) x b e at =
       let w : ℕ = width (extent 0 hi) in
-      pull b e at w λ v. guard (leb v (extent 0 hi)) (at + w) (mark 1) (ok (at + w) (rec t (x .0) v 0 ∷ []) 0)
+      pull b e at w λ v. guard (leb v (extent 0 hi)) (at + w) (mark 1) (ok (at + w) (rec t (x .0) v 0 at ∷ []) 0)
   read (text t n c lo hi) x b e at =
       let w : ℕ = width (n - 1) in
-      sized b e at lo hi λ k q. letters b e w n k q λ p. ok p (lettered t c (x .0) (units b w q k)) 0
-  read (span t w lo hi) x b e at = sized b e at lo hi λ k q. pull b e q (k * w) λ _. ok (q + k * w) (spanned t (x .0) q (k * w)) 0
-  read (anySpan t w) x b e at = lengthThen b e at λ k q. pull b e q (k * w) λ _. ok (q + k * w) (spanned t (x .0) q (k * w)) 0
+      sized b e at lo hi λ k q. letters b e w n k q λ p. ok p (lettered t c (x .0) at (units b w q k)) 0
+  read (span t w lo hi) x b e at = sized b e at lo hi λ k q. pull b e q (k * w) λ _. ok (q + k * w) (spanned t (x .0) at q (k * w)) 0
+  read (anySpan t w) x b e at = lengthThen b e at λ k q. pull b e q (k * w) λ _. ok (q + k * w) (spanned t (x .0) at q (k * w)) 0
   read (skipped m) x b e at = then (ok at [] (mark m)) λ p. lengthThen b e p λ k q. pull b e q (k * 8) λ _. ok (q + k * 8) [] 0
   read (small m t) x b e at =
       then (ok at [] (mark m)) λ p.
       pull b e p 1 λ y.
-      fork y (pull b e (p + 1) 6 λ v. ok (p + 7) (rec t (x .0) v 0 ∷ []) 0) (lengthThen b e (p + 1) λ k q. pull b e q (k * 8) λ v. ok (q + k * 8) (rec t (x .0) (word v) 0 ∷ []) 0)
+      fork y (pull b e (p + 1) 6 λ v. ok (p + 7) (rec t (x .0) v 0 p ∷ []) 0) (lengthThen b e (p + 1) λ k q. pull b e q (k * 8) λ v. ok (q + k * 8) (rec t (x .0) (word v) 0 p ∷ []) 0)
   read null x b e at = ok at [] 0
-  read (noted t v s f) x b e at = then (ok at (rec t (x .0) v s ∷ []) 0) λ p. read f x b e p
-  read (placed t f) x b e at = then (ok at (rec t (x .0) (x .1) 0 ∷ []) 0) λ p. read f x b e p
+  read (noted t v s f) x b e at = then (ok at (rec t (x .0) v s at ∷ []) 0) λ p. read f x b e p
+  read (placed t f) x b e at = then (ok at (rec t (x .0) (x .1) 0 at ∷ []) 0) λ p. read f x b e p
   read (marked m) x b e at = ok at [] (mark m)
   read (refuse w m) x b e at = stop w at [] m
   read (element f) x b e at = read f (x .1, x .1) b e at
@@ -270,7 +270,7 @@ unfoldable mutual
   read (loose fs) x b e at =
       fetch b e at (flags fs) (λ _. then (ok (at + flags fs) [] (unreadMarks fs b at)) λ p. readFields fs x b e at p)
       (late 1 [] (unreadMarks fs (within b e) at) (readFields fs x (within b e) e at (at + (e - at))))
-  read (choice t fs) x b e at = let w : ℕ = width (highest (alternativesOf fs)) in pull b e at w λ i. then (ok (at + w) (rec t (x .0) i 0 ∷ []) 0) λ p. readChoice fs i x b e p
+  read (choice t fs) x b e at = let w : ℕ = width (highest (alternativesOf fs)) in pull b e at w λ i. then (ok (at + w) (rec t (x .0) i 0 at ∷ []) 0) λ p. readChoice fs i x b e p
   read (many lo hi f) x b e at = sized b e at lo hi λ k q. times (λ i p. read f (x .0, i) b e p) 1 k q
   read (inner f) x b e at = lengthThen b e at λ k q. pull b e q k λ _. close (q + k) (read f x b (q + k) q)
   read (soft m r f) x b e at = softly m r (read f x b e at)
@@ -281,8 +281,8 @@ unfoldable mutual
   readFields end x b e q at = ok at [] 0
   readFields (f ⨾ fs) x b e q at = then (read f x b e at) λ p. readFields fs x b e q p
   readFields (f ⨾? fs) x b e q at = fork (b q) (readFields fs x b e (suc q) at) (then (read f x b e at) λ p. readFields fs x b e (suc q) p)
-  readFields (orNote t v s f fs) x b e q at = fork (b q) (then (ok at (rec t (x .0) v s ∷ []) 0) λ p. readFields fs x b e (suc q) p) (then (read f x b e at) λ p. readFields fs x b e (suc q) p)
-  readFields (unread t fs) x b e q at = fork (b q) (readFields fs x b e (suc q) at) (then (ok at (rec t (x .0) 1 0 ∷ []) (mark 4)) λ p. readFields fs x b e (suc q) p)
+  readFields (orNote t v s f fs) x b e q at = fork (b q) (then (ok at (rec t (x .0) v s at ∷ []) 0) λ p. readFields fs x b e (suc q) p) (then (read f x b e at) λ p. readFields fs x b e (suc q) p)
+  readFields (unread t fs) x b e q at = fork (b q) (readFields fs x b e (suc q) at) (then (ok at (rec t (x .0) 1 0 at ∷ []) (mark 4)) λ p. readFields fs x b e (suc q) p)
 
   -- an index that no alternative has is outside its listed values
   pub readChoice : Alts → ℕ → Ctx → (ℕ → ℕ) → ℕ → ℕ → Ans

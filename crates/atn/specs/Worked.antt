@@ -156,7 +156,8 @@ valuesIn t [] = []
 valuesIn t (u ∷ []) = []
 valuesIn t (u ∷ n ∷ []) = []
 valuesIn t (u ∷ n ∷ v ∷ []) = []
-valuesIn t (u ∷ n ∷ v ∷ s ∷ w) = cond (eqb t u) (v ∷ valuesIn t w) (valuesIn t w)
+valuesIn t (u ∷ n ∷ v ∷ s ∷ []) = []
+valuesIn t (u ∷ n ∷ v ∷ s ∷ q ∷ w) = cond (eqb t u) (v ∷ valuesIn t w) (valuesIn t w)
 
 unfoldable pub of-answer : Answer → Written
 of-answer (accepted false p m k) = whole p m
