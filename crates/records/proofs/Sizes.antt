@@ -18,12 +18,12 @@ need-space rs = omega arith
 
 pub flat-length : (r : Rec) → length (flat (r ∷ [])) ≡ size
 unfolding flat size need
-flat-length (rec t m v s) = refl
+flat-length (rec t m v s q) = refl
 
 pub flat-append : (rs ss : List Rec) → flat (rs ++ ss) ≡ flat rs ++ flat ss
 unfolding flat
 flat-append [] ss = refl
-flat-append (rec t m v s ∷ rs) ss = rw (flat-append rs ss)
+flat-append (rec t m v s q ∷ rs) ss = rw (flat-append rs ss)
 
 -- more records take more words
 pub space-grows : {n m : ℕ} → n ≤ m → space n ≤ space m
@@ -34,4 +34,4 @@ space-grows h = omega arith
 pub flat-need : (rs : List Rec) → length (flat rs) ≡ need rs
 unfolding flat need
 flat-need [] = refl
-flat-need (rec t m v s ∷ rs) = let e = flat-need rs in omega arith
+flat-need (rec t m v s q ∷ rs) = let e = flat-need rs in omega arith

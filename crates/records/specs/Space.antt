@@ -6,7 +6,7 @@ use Rattle.atn.specs.Entries.{need}
 
 -- the words of a record, whichever it is
 unfoldable pub size : ℕ
-size = need (rec 0 0 0 0 ∷ [])
+size = need (rec 0 0 0 0 0 ∷ [])
 
 -- the words of n records
 unfoldable pub space : ℕ → ℕ

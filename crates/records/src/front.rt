@@ -8,12 +8,13 @@ ghost use Rattle.atn.specs.Entries.{flat};
 ghost use Rattle.records.specs.Space.{size};
 
 // The words behind it stay.
-pub fn put_record(front: &mut [u64], tag: u64, element: u64, value: u64, second: u64)
+pub fn put_record(front: &mut [u64], tag: u64, element: u64, value: u64, second: u64, place: u64)
     requires { ⌜ size ≤ length (now front) ⌝ }
-    ensures { λ _. ⌜ now (front .exit) ≡ flat (rec tag element value second ∷ []) ++ drop size (now (front .entry)) ⌝ }
+    ensures { λ _. ⌜ now (front .exit) ≡ flat (rec tag element value second place ∷ []) ++ drop size (now (front .entry)) ⌝ }
 {
     front[0] = tag;
     front[1] = element;
     front[2] = value;
     front[3] = second;
+    front[4] = place;
 }

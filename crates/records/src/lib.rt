@@ -9,17 +9,17 @@ pub mod front; // front.rt: a record at the front of what is lent
 pub mod space; // space.rt: how many words records take
 
 // The words of a record.
-const WORDS: usize = 4;
+const WORDS: usize = 5;
 
 // One record, with n before it, and how many there are then. Without room for it the words stay and the
 // record still counts: so a reading that is lent no words tells how many it would write.
-pub fn emit(words: &mut [u64], n: usize, tag: u64, element: u64, value: u64, second: u64) -> usize
+pub fn emit(words: &mut [u64], n: usize, tag: u64, element: u64, value: u64, second: u64, place: usize) -> usize
     requires { ⌜ n < 2 ^ 32 ⌝ }
-    ensures { λ m. ⌜ Told 1 (now (words .entry)) (now (words .exit)) n m (rec tag element value second ∷ []) ⌝ }
+    ensures { λ m. ⌜ Told 1 (now (words .entry)) (now (words .exit)) n m (rec tag element value second place ∷ []) ⌝ }
 {
     let at = space::words_for(n);
     if at + WORDS <= words.len() {
-        front::put_record(&mut words[at..], tag, element, value, second);
+        front::put_record(&mut words[at..], tag, element, value, second, place as u64);
     }
     n + 1
 }

@@ -50,11 +50,11 @@ module _ (w : List ℕ) (n : ℕ) (r : Rec) (h : space n + size ≤ length w) wh
       }
 
 -- the test, by the definition's numbers
-room : (at n : ℕ) {l : ℕ} → at ≡ space n → at + 4 ≤ l → space n + size ≤ l
+room : (at n : ℕ) {l : ℕ} → at ≡ space n → at + 5 ≤ l → space n + size ≤ l
 unfolding size need
 room at n place h = omega arith
 
-short : (at n : ℕ) {l : ℕ} → at ≡ space n → l < at + 4 → l < space n + size
+short : (at n : ℕ) {l : ℕ} → at ≡ space n → l < at + 5 → l < space n + size
 unfolding size need
 short at n place h = omega arith
 
@@ -62,7 +62,7 @@ full : (w : List ℕ) (n : ℕ) (r : Rec) → length w < space n + size → Told
 full w n r h = record { count = refl; few = omega arith; room = refl; before = refl; words = λ f. absurd (omega (arith, grows n)) }
 
 -- the tail has room for the record
-tail-long : (w : List ℕ) (at : ℕ) → at + 4 ≤ length w → size ≤ length (midOf at (length w - at) w)
+tail-long : (w : List ℕ) (at : ℕ) → at + 5 ≤ length w → size ≤ length (midOf at (length w - at) w)
 unfolding size need
 tail-long w at h =
     let l : length (drop at w) ≤ length w - at = simp length-drop (le-refl _) in
@@ -82,7 +82,7 @@ returns c =
     let a = c .before .before .before .args in
     let at = c .before .words-for .result in
     let place = c .before .words-for .ensures in
-    let r : Rec = rec (a .tag) (a .element) (a .value) (a .second) in
+    let r : Rec = rec (a .tag) (a .element) (a .value) (a .second) (a .place) in
     ⊎-elim (λ x. stored (a .words .now) (a .n) r (room at (a .n) place (x .0 .taken)) (x .5 ∙ back (a .words .now) (a .n) r (room at (a .n) place (x .0 .taken)) place (x .2 .ensures)))
     (λ x. rw (x .1) (full (a .words .now) (a .n) r (short at (a .n) place (x .0 .left)))) (c .if1 .came)
 

@@ -25,11 +25,15 @@ slice-write-front-4 : tie.Need-slice-write-front-4
 unfolding size need
 slice-write-front-4 c = simp length-set (omega (arith, c .pre))
 
+slice-write-front-5 : tie.Need-slice-write-front-5
+unfolding size need
+slice-write-front-5 c = simp length-set (omega (arith, c .pre))
+
 returns : tie.Need-returns
 unfolding flat size need
 returns c =
     let a = c .args in
-    sets-eq (a .tag ∷ a .element ∷ a .value ∷ a .second ∷ []) (a .front .now) 0 (c .pre)
+    sets-eq (a .tag ∷ a .element ∷ a .value ∷ a .second ∷ a .place ∷ []) (a .front .now) 0 (c .pre)
 
 pub put-record-spec : {M : Type 1} → statement M
-put-record-spec = tie.close (tie.spec slice-write-front slice-write-front-2 slice-write-front-3 slice-write-front-4 (λ c. search needs) returns)
+put-record-spec = tie.close (tie.spec slice-write-front slice-write-front-2 slice-write-front-3 slice-write-front-4 slice-write-front-5 (λ c. search needs) returns)
