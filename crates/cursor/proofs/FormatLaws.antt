@@ -15,7 +15,7 @@ use Rattle.cursor.specs.declared.place.Got.{Got}
 use Rattle.cursor.specs.Place.{number, put, stopped, marked, Inside, Pulled, stuck, short, got, Pulls, Opened, shutAlready, ranShort, opened, Opens, Led, stayed, went, failed, Reads, Takes}
 use Rattle.cursor.specs.Formats.{Fields, Maybe, Times}
 use Rattle.atn.proofs.Marks.{or-nil}
-use Rattle.cursor.proofs.Laws.{led-inside, led-stays, led-from, bit-of, reads-same, reads-then, reads-ok, reads-stop, pull-then, marked-nil}
+use Rattle.cursor.proofs.Laws.{reads-here, pull-from, led-inside, led-stays, led-from, bit-of, reads-same, reads-then, reads-ok, reads-stop, pull-then, marked-nil}
 
 -- nothing, and what has no reader
 pub takes-null : {s : List ℕ} {c : Cursor} → Takes null s c c (λ n. [])
@@ -27,9 +27,9 @@ unfolding read
 takes-refuse w m n q = record { took = λ x. reads-stop w m n q }
 
 -- a record before the part
-pub takes-noted : {f : Fmt} {s : List ℕ} {c d : Cursor} {T : ℕ → List Rec} (t v y : ℕ) → Takes f s c d T → Takes (noted t v y f) s c d (λ n. rec t n v y ∷ T n)
+pub takes-noted : {f : Fmt} {s : List ℕ} {c d : Cursor} {T : ℕ → List Rec} (t v y : ℕ) → Takes f s c d T → Takes (noted t v y f) s c d (λ n. rec t n v y (c .at) ∷ T n)
 unfolding read
-takes-noted {f} {s} {c} t v y h = record { took = λ x. reads-then (λ u p. ok p (rec t (x .0) v y ∷ []) 0) (λ u p. read f x (bitOf s) u p) (reads-ok _ 0 (marked-nil c)) (h .took x) }
+takes-noted {f} {s} {c} t v y h = record { took = λ x. reads-then (λ u p. ok p (rec t (x .0) v y p ∷ []) 0) (λ u p. read f x (bitOf s) u p) (reads-here (λ p. rec t (x .0) v y p ∷ []) 0 (marked-nil c)) (h .took x) }
 
 ---------------------------------------------------------------- extension bits
 
@@ -57,14 +57,14 @@ module _ {f k : Fmt} {s : List ℕ} {c d : Cursor} {T : ℕ → List Rec} (g : G
 
 -- the index, then the alternative that it names
 pub takes-choice : (t : ℕ) (fs : Alts) {s : List ℕ} {c d : Cursor} {T : ℕ → List Rec} (g : Got) → Pulls s c (width (highest (alternativesOf fs))) g
-    → ((x : Ctx) → Reads (λ u q. readChoice fs (g .v) x (bitOf s) u q) s (g .c) d (T (x .0))) → Takes (choice t fs) s c d (λ n. rec t n (g .v) 0 ∷ T n)
+    → ((x : Ctx) → Reads (λ u q. readChoice fs (g .v) x (bitOf s) u q) s (g .c) d (T (x .0))) → Takes (choice t fs) s c d (λ n. rec t n (g .v) 0 (c .at) ∷ T n)
 unfolding read
 takes-choice t fs {s} {c} {d} {T} g p h =
     let w : ℕ = width (highest (alternativesOf fs)) in
     record {
       took = λ x.
-          pull-then w g (λ v u q. then (ok q (rec t (x .0) v 0 ∷ []) 0) λ r. readChoice fs v x (bitOf s) u r) p
-          (reads-then (λ u q. ok q (rec t (x .0) (g .v) 0 ∷ []) 0) (λ u r. readChoice fs (g .v) x (bitOf s) u r) (reads-ok _ 0 (marked-nil (g .c))) (h x));
+          pull-from w g (λ a v u q. then (ok q (rec t (x .0) v 0 a ∷ []) 0) λ r. readChoice fs v x (bitOf s) u r) p
+          (reads-then (λ u q. ok q (rec t (x .0) (g .v) 0 (c .at) ∷ []) 0) (λ u r. readChoice fs (g .v) x (bitOf s) u r) (reads-ok _ 0 (marked-nil (g .c))) (h x));
     }
 
 ---------------------------------------------------------------- fields

@@ -82,6 +82,10 @@ reads-ok {s} {c} {d} R m q = record { led = λ i. go i (c .why) refl }
     go i zero z = went (c .at) m z refl (i .0) (q ∙ rw (eq-eqb (c .why) 0 z))
     go i (suc w) z = let n : c .why ≡ 0 → ⊥ = (λ y. omega arith) in stayed n (q ∙ rw (ne-eqb (c .why) 0 n))
 
+-- records that have the place where the reading stands
+pub reads-here : {s : List ℕ} {c d : Cursor} (R : ℕ → List Rec) (m : ℕ) → d ≡ marked c m → Reads (λ u p. ok p (R p) m) s c d (R (c .at))
+reads-here {c = c} R m q = reads-same (λ u p. ok p (R (c .at)) m) (λ u p. ok p (R p) m) refl (reads-ok (R (c .at)) m q)
+
 -- the reading stops, whatever was told before
 pub reads-stop-with : {s : List ℕ} {c d : Cursor} {R : List Rec} (S : List Rec) (w : Why) (m : ℕ) → (number w ≡ 0 → ⊥) → d ≡ stopped c (number w) m → Reads (λ u p. stop w p S m) s c d R
 unfolding stopped
@@ -114,6 +118,11 @@ module _ {s : List ℕ} {c d : Cursor} {R : List Rec} (n : ℕ) (g : Got) (k : �
   -- n bits, and what follows them
   pub pull-then : Pulls s c n g → Reads (λ u p. k (g .v) u p) s (g .c) d R → Reads (Behind s n k) s c d R
   pull-then x y = record { led = λ i. pulled-then i (x .gave i) (y .led (pulled-inside s c n g i (x .gave i))) }
+
+-- the same where what follows also knows the place at which the bits started
+pub pull-from : {s : List ℕ} {c d : Cursor} {R : List Rec} (n : ℕ) (g : Got) (k : ℕ → ℕ → ℕ → ℕ → Ans) → Pulls s c n g → Reads (λ u q. k (c .at) (g .v) u q) s (g .c) d R
+    → Reads (λ u p. pull (bitOf s) u p n (λ v. k p v u (p + n))) s c d R
+pull-from {s} {c} n g k x y = reads-same (Behind s n (k (c .at))) (λ u p. pull (bitOf s) u p n (λ v. k p v u (p + n))) refl (pull-then n g (k (c .at)) x y)
 
 ---------------------------------------------------------------- what marks and stops leave
 

@@ -368,7 +368,7 @@ module _ {s : List ℕ} {c : Cursor} {form : Got} (a : Pulls s c 1 form) where
 
 module _ {s : List ℕ} {c d : Cursor} where
   -- the caller marks, and reads the number
-  pub takes-small : (m t : ℕ) {g : Got} → d ≡ marked c (mark m) → Smalls s d g → Takes (small m t) s c (g .c) (λ n. rec t n (g .v) 0 ∷ [])
+  pub takes-small : (m t : ℕ) {g : Got} → d ≡ marked c (mark m) → Smalls s d g → Takes (small m t) s c (g .c) (λ n. rec t n (g .v) 0 (d .at) ∷ [])
   unfolding read smallThen
   takes-small m t {g} q x = record { took = λ y. reads-mark (mark m) _ q (x .then (λ v u p. ok p (rec t (y .0) v 0 ∷ []) 0) (reads-ok _ 0 (marked-nil (g .c)))) }
 

@@ -16,7 +16,7 @@ use Rattle.cursor.specs.Place.{number, marked, stopped, Pulls, Takes}
 use Rattle.field_ranges.specs.Ranges.{Listed, widthOf}
 use Rattle.ranged_numbers.specs.Numbers.{FromLowest, Ranged, Named}
 use Rattle.field_ranges.proofs.RowLaws.{lowest-of, highest-of}
-use Rattle.cursor.proofs.Laws.{reads-ok, reads-stop, pull-then, marked-nil}
+use Rattle.cursor.proofs.Laws.{reads-ok, reads-stop, pull-from, marked-nil}
 
 -- mark 1 above the extent alone
 pub in-extent : {d top v : ℕ} → top ≡ d → v ≤ top → over d v ≡ 0
@@ -28,16 +28,16 @@ unfolding over unless mark
 above-extent {d} {top} {v} z l = rw (lt-leb v d (rw z at l))
 
 module _ {s : List ℕ} {c d : Cursor} (g : Got) where
-  takes-num : (t lo hi : ℕ) → Pulls s c (width (extent lo hi)) g → d ≡ marked (g .c) (over (extent lo hi) (g .v)) → Takes (num t lo hi) s c d (λ n. rec t n (word (lo + g .v)) 0 ∷ [])
+  takes-num : (t lo hi : ℕ) → Pulls s c (width (extent lo hi)) g → d ≡ marked (g .c) (over (extent lo hi) (g .v)) → Takes (num t lo hi) s c d (λ n. rec t n (word (lo + g .v)) 0 (c .at) ∷ [])
   unfolding read
-  takes-num t lo hi p q = record { took = λ x. pull-then (width (extent lo hi)) g (λ v u z. ok z (rec t (x .0) (word (lo + v)) 0 ∷ []) (over (extent lo hi) v)) p (reads-ok _ _ q) }
+  takes-num t lo hi p q = record { took = λ x. pull-from (width (extent lo hi)) g (λ a v u z. ok z (rec t (x .0) (word (lo + v)) 0 a ∷ []) (over (extent lo hi) v)) p (reads-ok _ _ q) }
 
-  takes-name : (t hi : ℕ) → Pulls s c (width (extent 0 hi)) g → g .v ≤ extent 0 hi → d ≡ g .c → Takes (name t hi) s c d (λ n. rec t n (g .v) 0 ∷ [])
+  takes-name : (t hi : ℕ) → Pulls s c (width (extent 0 hi)) g → g .v ≤ extent 0 hi → d ≡ g .c → Takes (name t hi) s c d (λ n. rec t n (g .v) 0 (c .at) ∷ [])
   unfolding read guard
   takes-name t hi p l q =
       record {
         took = λ x.
-            pull-then (width (extent 0 hi)) g (λ v u z. guard (leb v (extent 0 hi)) z (mark 1) (ok z (rec t (x .0) v 0 ∷ []) 0)) p
+            pull-from (width (extent 0 hi)) g (λ a v u z. guard (leb v (extent 0 hi)) z (mark 1) (ok z (rec t (x .0) v 0 a ∷ []) 0)) p
             (rw (le-leb (g .v) (extent 0 hi) l) (reads-ok _ 0 (q ∙ marked-nil (g .c))));
       }
 
@@ -46,7 +46,7 @@ module _ {s : List ℕ} {c d : Cursor} (g : Got) where
   takes-unnamed t hi p l q =
       record {
         took = λ x.
-            pull-then (width (extent 0 hi)) g (λ v u z. guard (leb v (extent 0 hi)) z (mark 1) (ok z (rec t (x .0) v 0 ∷ []) 0)) p
+            pull-from (width (extent 0 hi)) g (λ a v u z. guard (leb v (extent 0 hi)) z (mark 1) (ok z (rec t (x .0) v 0 a ∷ []) 0)) p
             (rw (lt-leb (g .v) (extent 0 hi) l) (reads-stop bad (mark 1) (λ z. omega arith) q));
       }
 

@@ -17,10 +17,10 @@ pub record FromLowest (r : Range) (b : Cursor) (v : ℕ) (g : Got) : Type 0 wher
   pub marks : g .c ≡ marked b (over (extent (r .lo) (r .hi)) v)
 
 pub record Ranged (k : ℕ) (s : List ℕ) (c : Cursor) (g : Got) : Type 0 where
-  pub number : (t : ℕ) → Takes (num t (lowest k) (highest k)) s c (g .c) (λ n. rec t n (g .v) 0 ∷ [])
+  pub number : (t : ℕ) → Takes (num t (lowest k) (highest k)) s c (g .c) (λ n. rec t n (g .v) 0 (c .at) ∷ [])
 
 pub record Named (k : ℕ) (s : List ℕ) (c : Cursor) (g : Got) : Type 0 where
-  pub name : (t : ℕ) → Takes (name t (highest k)) s c (g .c) (λ n. rec t n (g .v) 0 ∷ [])
+  pub name : (t : ℕ) → Takes (name t (highest k)) s c (g .c) (λ n. rec t n (g .v) 0 (c .at) ∷ [])
 
 -- n numbers with one tag, from the row k on, and then others
 abbrev pub rowsThen : ℕ → ℕ → ℕ → Alts → Alts
