@@ -370,7 +370,7 @@ module _ {s : List ℕ} {c d : Cursor} where
   -- the caller marks, and reads the number
   pub takes-small : (m t : ℕ) {g : Got} → d ≡ marked c (mark m) → Smalls s d g → Takes (small m t) s c (g .c) (λ n. rec t n (g .v) 0 (d .at) ∷ [])
   unfolding read smallThen
-  takes-small m t {g} q x = record { took = λ y. reads-mark (mark m) _ q (x .then (λ v u p. ok p (rec t (y .0) v 0 ∷ []) 0) (reads-ok _ 0 (marked-nil (g .c)))) }
+  takes-small m t {g} q x = record { took = λ y. reads-mark (mark m) _ q (reads-same (λ u p. smallThen (bitOf s) u p (λ v q. ok q (rec t (y .0) v 0 (d .at) ∷ []) 0)) _ refl (x .then (λ v u p. ok p (rec t (y .0) v 0 (d .at) ∷ []) 0) (reads-ok _ 0 (marked-nil (g .c))))) }
 
   -- the caller marks, measures and passes over
   pub takes-skipped : (m : ℕ) {l : Measured} {r : Cursor} → d ≡ marked c (mark m) → Measures s d l → Passes (l .c) (l .count * 8) r → Takes (skipped m) s c r (λ n. [])
@@ -378,7 +378,7 @@ module _ {s : List ℕ} {c d : Cursor} where
   takes-skipped m q x y = record { took = λ _. reads-mark (mark m) _ q (x .then (λ n u p. pull (bitOf s) u p (n * 8) (λ _. ok (p + n * 8) [] 0)) (passes-ok y)) }
 
 -- the caller measures and passes over, and tells the span
-pub takes-any-span : {s : List ℕ} {c : Cursor} (t w : ℕ) {l : Measured} {r : Cursor} → Measures s c l → Passes (l .c) (l .count * w) r → Takes (anySpan t w) s c r (λ n. spanned t n (l .c .at) (l .count * w))
+pub takes-any-span : {s : List ℕ} {c : Cursor} (t w : ℕ) {l : Measured} {r : Cursor} → Measures s c l → Passes (l .c) (l .count * w) r → Takes (anySpan t w) s c r (λ n. spanned t n (c .at) (l .c .at) (l .count * w))
 unfolding read
 takes-any-span {s} {c} t w {l} {r} x y =
-    record { took = λ z. x .then (λ n u p. pull (bitOf s) u p (n * w) (λ _. ok (p + n * w) (spanned t (z .0) p (n * w)) 0)) (reads-same _ _ refl (passes-ok y)) }
+    record { took = λ z. reads-same (λ u p. lengthThen (bitOf s) u p (λ n q. pull (bitOf s) u q (n * w) (λ _. ok (q + n * w) (spanned t (z .0) (c .at) q (n * w)) 0))) _ refl (x .then (λ n u p. pull (bitOf s) u p (n * w) (λ _. ok (p + n * w) (spanned t (z .0) (c .at) p (n * w)) 0)) (reads-same _ _ refl (passes-ok y))) }
