@@ -12,6 +12,7 @@ pub mod Demands
 pub mod Each
 pub mod Marks
 pub mod Shift
+pub mod Places
 pub mod Worked
 pub mod Tame
 pub mod Firm

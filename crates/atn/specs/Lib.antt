@@ -1,6 +1,7 @@
 pub mod Format
 pub mod Reading
 pub mod Told
+pub mod Places
 pub mod Schema
 pub mod Tags
 pub mod Messages

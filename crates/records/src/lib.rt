@@ -13,7 +13,15 @@ const WORDS: usize = 5;
 
 // One record, with n before it, and how many there are then. Without room for it the words stay and the
 // record still counts: so a reading that is lent no words tells how many it would write.
-pub fn emit(words: &mut [u64], n: usize, tag: u64, element: u64, value: u64, second: u64, place: usize) -> usize
+pub fn emit(
+    words: &mut [u64],
+    n: usize,
+    tag: u64,
+    element: u64,
+    value: u64,
+    second: u64,
+    place: usize,
+) -> usize
     requires { ⌜ n < 2 ^ 32 ⌝ }
     ensures { λ m. ⌜ Told 1 (now (words .entry)) (now (words .exit)) n m (rec tag element value second place ∷ []) ⌝ }
 {
