@@ -13,7 +13,7 @@ use Rattle.x691.specs.Types.{extent}
 use Rattle.x691.specs.Encoding.{width, widthIn}
 use Rattle.per.proofs.Laws.{uint-below, uint-below-wide}
 use Rattle.per.proofs.Widths.{width-le}
-use Rattle.atn.specs.Format.{text, numeric, out}
+use Rattle.atn.specs.Format.{text, first, numeric, out}
 use Rattle.atn.specs.Reading.{Rec, Ctx, Ans, ok, past, stop, glue, late, then, or, mark, unless, over, sized, letters, units, coded, lettered, pack, read}
 use Rattle.atn.proofs.Marks.{or-assoc, or-nil}
 use Rattle.atn.proofs.Steps.{pull-go, pull-no, then-nil}
@@ -141,14 +141,14 @@ module _ (s : List ℕ) (e : ℕ) where
           let l : at + 7 - e ≡ 7 - (e - at) % 7 = omega arith in
           pull-no (bitOf s) e at 7 _ y ∙ rw l (ap (λ (p : ℕ). stop (out (7 - (e - at) % 7)) p [] 0) (omega arith))
 
-in-frame-none : {w : ℕ} {s : List ℕ} → InFrame w s (record { at = 0; len = 0 })
+in-frame-none : {w : ℕ} {s : List ℕ} → InFrame w s (record { from = 0; at = 0; len = 0 })
 in-frame-none {w} = record { there = omega (arith, zero-mul w); fits = omega (arith, zero-mul w) }
 
 abbrev cut : Cursor → TextAt
-cut d = record { text = record { at = 0; len = 0 }; c = d }
+cut d = record { text = record { from = 0; at = 0; len = 0 }; c = d }
 
 module _ {s : List ℕ} {c : Cursor} {n : ℕ} where
-  pub passed-all : {p : ℕ} {t : Bool} → Ahead s c 0 t → t ≡ true → n ≤ (c .end - c .at) / 7 → p ≡ c .at + 7 * n → p < 2 ^ 64 → Passed n s c (record { text = record { at = c .at; len = n }; c = put c p 0 (c .marks) })
+  pub passed-all : {p : ℕ} {t : Bool} → Ahead s c 0 t → t ≡ true → n ≤ (c .end - c .at) / 7 → p ≡ c .at + 7 * n → p < 2 ^ 64 → Passed n s c (record { text = record { from = c .at; at = c .at; len = n }; c = put c p 0 (c .marks) })
   passed-all {p} a t l q f =
       let z = a .goes t in
       let h = a .held t in
@@ -179,17 +179,18 @@ module _ {s : List ℕ} {c : Cursor} {n : ℕ} where
         held = in-frame-none;
       }
 
-pub text-of : {k : ℕ} {s : List ℕ} {c : Cursor} {g : Got} {r : TextAt} → Sized k s c g → Passed (g .v) s (g .c) r → Texts k s c r
+pub text-of : {k : ℕ} {s : List ℕ} {c : Cursor} {g : Got} {r : TextAt} → Sized k s c g → Passed (g .v) s (g .c) r → Texts k s c (record { text = record { from = c .at; at = r .text .at; len = r .text .len }; c = r .c })
 unfolding read width widthIn textRecs
 text-of {k} {s} {c} {g} {r} z p =
     record {
       text = λ t. record {
         took = λ x.
             rw (coded-nil (units (bitOf s) 7 (r .text .at) (r .text .len))) at
-            (z .size (λ n e q. letters (bitOf s) e 7 128 n q (λ y. ok y (pack t (x .0) (coded 0 (units (bitOf s) 7 q n))) 0)) (p .characters (λ q n. pack t (x .0) (coded 0 (units (bitOf s) 7 q n)))));
+            (reads-same (λ e p. sized (bitOf s) e p (lowest k) (highest k) (λ n q. letters (bitOf s) e 7 128 n q (λ y. ok y (pack t (x .0) (c .at) (coded 0 (units (bitOf s) 7 q n))) 0))) (λ e p. read (text t 128 (first 0) (lowest k) (highest k)) x (bitOf s) e p) refl
+            (z .size (λ n e q. letters (bitOf s) e 7 128 n q (λ y. ok y (pack t (x .0) (c .at) (coded 0 (units (bitOf s) 7 q n))) 0)) (p .characters (λ q n. pack t (x .0) (c .at) (coded 0 (units (bitOf s) 7 q n))))));
       };
       few = omega (arith, z .few, p .few);
-      held = p .held;
+      held = record { there = p .held .there; fits = p .held .fits };
     }
 
 ---------------------------------------------------------------- digits, one after another
@@ -305,13 +306,13 @@ size-twelve b e at k l = pull-go b e at 0 _ (omega arith) ∙ rw (add-zero at) (
 
 module _ {s : List ℕ} {c d : Cursor} (x : Digits 12 s c d) where
   abbrev told : ℕ → ℕ → ℕ → ℕ → List Rec
-  told t u n p = lettered t (numeric u) n (units (bitOf s) 4 p 12)
+  told t u n p = lettered t (numeric u) n p (units (bitOf s) 4 p 12)
 
   channel-read : (t u : ℕ) (y : Ctx) {R : List Rec} → Reads (λ e p. letters (bitOf s) e 4 11 12 p (λ q. ok q (told t u (y .0) p) 0)) s c d R → Reads (λ e p. read (text t 11 (numeric u) 12 12) y (bitOf s) e p) s c d R
   unfolding read width widthIn
   channel-read t u y r = in-window λ i. reads-same _ _ (sym (size-twelve (bitOf s) (c .end) (c .at) _ (i .0))) r
 
-  pub channel-all : {t : Bool} → Ahead s c 48 t → t ≡ true → c .end < 2 ^ 64 → Channel s c (record { text = record { at = c .at; len = 12 }; c = d })
+  pub channel-all : {t : Bool} → Ahead s c 48 t → t ≡ true → c .end < 2 ^ 64 → Channel s c (record { text = record { from = c .at; at = c .at; len = 12 }; c = d })
   unfolding channelRecs
   channel-all a q f =
       record {
@@ -320,7 +321,7 @@ module _ {s : List ℕ} {c d : Cursor} (x : Digits 12 s c d) where
         held = record { there = omega (arith, a .room q, a .held q); fits = omega (arith, a .room q) };
       }
 
-  pub channel-cut : {t : Bool} → Ahead s c 48 t → t ≡ false → Channel s c (record { text = record { at = 0; len = 0 }; c = d })
+  pub channel-cut : {t : Bool} → Ahead s c 48 t → t ≡ false → Channel s c (record { text = record { from = 0; at = 0; len = 0 }; c = d })
   channel-cut a q =
       record {
         channel = λ t u. record { took = λ y. channel-read t u y (reads-cut _ (λ i z. digits-short (bitOf s) (c .end) 12 (c .at) _ (i .0) (a .short q i z)) (digits-told x (told t u (y .0)))) };

@@ -16,12 +16,12 @@ use Rattle.cursor.specs.Place.{Inside, Reads, Takes}
 use Rattle.field_ranges.specs.Ranges.{Listed}
 use Rattle.field_ranges.specs.Ends.{lowest, highest}
 
--- the records of a text of seven-bit characters, and those of a channel's digits, by the place and the number of the characters
+-- the records of a text of seven-bit characters, and those of a channel's digits, by where the field starts and the place and the number of the characters
 unfoldable pub textRecs : ℕ → ℕ → List ℕ → Text → List Rec
-textRecs t n s x = pack t n (units (bitOf s) 7 (x .at) (x .len))
+textRecs t n s x = pack t n (x .from) (units (bitOf s) 7 (x .at) (x .len))
 
 unfoldable pub channelRecs : ℕ → ℕ → ℕ → List ℕ → Text → List Rec
-channelRecs t u n s x = lettered t (numeric u) n (units (bitOf s) 4 (x .at) (x .len))
+channelRecs t u n s x = lettered t (numeric u) n (x .from) (units (bitOf s) 4 (x .at) (x .len))
 
 -- the characters, of w bits each, are in the frame, and so are their places in a word
 pub record InFrame (w : ℕ) (s : List ℕ) (x : Text) : Type 0 where

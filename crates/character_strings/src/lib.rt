@@ -9,8 +9,9 @@ use cursor::place::stop;
 use field_ranges::table::Range;
 use per::room::holds;
 
-// The place of the first character's bit, and the number of characters.
+// Where the field starts, which is at its size if that has bits; the place of the first character's bit, and the number of characters.
 pub struct Text {
+    pub from: usize,
     pub at: usize,
     pub len: usize,
 }
@@ -25,9 +26,17 @@ pub fn ia5(s: &[u8], c: Cursor, range: Range) -> TextAt
     requires { ⌜ SizeRow range ⌝ }
     ensures { λ r. ⌜ Texts (range .row) (now (s .entry)) c r ⌝ }
 {
+    let from = c.at;
     let g = size(s, c, range);
-    let len = g.v as usize;
-    characters(s, g.c, len)
+    let x = characters(s, g.c, g.v as usize);
+    let run = x.text;
+    let end = x.c;
+    let text = Text {
+        from: from,
+        at: run.at,
+        len: run.len,
+    };
+    TextAt { text: text, c: end }
 }
 
 // A size of the range. Above the range it is a size all the same, with mark 1.
@@ -54,10 +63,18 @@ pub fn channel(s: &[u8], c: Cursor) -> TextAt
     let all = ahead(s, c, 48);
     let d = digits(s, c);
     if all {
-        let x = Text { at: at, len: 12 };
+        let x = Text {
+            from: at,
+            at: at,
+            len: 12,
+        };
         return TextAt { text: x, c: d };
     }
-    let none = Text { at: 0, len: 0 };
+    let none = Text {
+        from: 0,
+        at: 0,
+        len: 0,
+    };
     TextAt { text: none, c: d }
 }
 
@@ -85,12 +102,20 @@ fn characters(s: &[u8], c: Cursor, len: usize) -> TextAt
     let at = c.at;
     let end = c.end;
     let marks = c.marks;
-    let none = Text { at: 0, len: 0 };
+    let none = Text {
+        from: 0,
+        at: 0,
+        len: 0,
+    };
     if ahead(s, c, 0) {
         let left = end - at;
         let room = left / 7;
         if len <= room {
-            let x = Text { at: at, len: len };
+            let x = Text {
+                from: at,
+                at: at,
+                len: len,
+            };
             let d = Cursor {
                 at: at + 7 * len,
                 end: end,

@@ -84,9 +84,9 @@ module _ (s : List ℕ) (r : Run) where
 module _ (t m : ℕ) (s : List ℕ) (r : Run) where
   -- those of the characters from i on
   abbrev behind : ℕ → List Rec
-  behind i = packs t m (r .len) ((r .len - i + 7) / 8) (from s r i)
+  behind i = packs t m (r .from) (r .len) ((r .len - i + 7) / 8) (from s r i)
 
-  behind-next : (i : ℕ) → i < r .len → behind i ≡ rec t m (octets 8 (from s r i)) (r .len) ∷ behind (i + 8)
+  behind-next : (i : ℕ) → i < r .len → behind i ≡ rec t m (octets 8 (from s r i)) (r .len) (r .from) ∷ behind (i + 8)
   unfolding packs
   behind-next i h = let e : (r .len - i + 7) / 8 ≡ suc ((r .len - (i + 8) + 7) / 8) = omega arith in rw (e, from-drop s r 8 i)
 
@@ -94,9 +94,9 @@ module _ (t m : ℕ) (s : List ℕ) (r : Run) where
   unfolding packs
   behind-none i h = let e : (r .len - i + 7) / 8 ≡ 0 = omega arith in rw e
 
-  behind-all : pack t m (from s r 0) ≡ behind 0
+  behind-all : pack t m (r .from) (from s r 0) ≡ behind 0
   unfolding pack
-  behind-all = let e : r .len ≡ r .len - 0 = omega arith in rw (from-length s r) (ap (λ (l : ℕ). packs t m (r .len) ((l + 7) / 8) (from s r 0)) e)
+  behind-all = let e : r .len ≡ r .len - 0 = omega arith in rw (from-length s r) (ap (λ (l : ℕ). packs t m (r .from) (r .len) ((l + 7) / 8) (from s r 0)) e)
 
 -- the records of the characters before i are told, and with the others they are all
 pub record Upto (t e : ℕ) (s : List ℕ) (r : Run) (w w′ : List ℕ) (n m i : ℕ) : Type 0 where
@@ -109,10 +109,10 @@ pub upto-none : {t e : ℕ} {s : List ℕ} {r : Run} {w : List ℕ} {n : ℕ} �
 upto-none = record { gone = []; told = told-none; all = refl; count = omega arith }
 
 module _ {t e : ℕ} {s : List ℕ} {r : Run} {w w′ : List ℕ} where
-  pub upto-more : {w″ : List ℕ} {n m l i v : ℕ} → i < r .len → Upto t e s r w w′ n m i → v ≡ octets 8 (from s r i) → Told 1 w′ w″ m l (rec t e v (r .len) ∷ []) → Upto t e s r w w″ n l (i + 8)
+  pub upto-more : {w″ : List ℕ} {n m l i v : ℕ} → i < r .len → Upto t e s r w w′ n m i → v ≡ octets 8 (from s r i) → Told 1 w′ w″ m l (rec t e v (r .len) (r .from) ∷ []) → Upto t e s r w w″ n l (i + 8)
   upto-more {w″} {n} {m} {l} {i} {v} h u q x =
       let c : l ≡ m + 1 = x .count in
-      let one : List Rec = rec t e v (r .len) ∷ [] in
+      let one : List Rec = rec t e v (r .len) (r .from) ∷ [] in
       record {
         gone = u .gone ++ one;
         told = told-within (length (u .gone ++ one)) (simp length-append (omega arith)) (told-then (u .told) x);
@@ -120,10 +120,10 @@ module _ {t e : ℕ} {s : List ℕ} {r : Run} {w w′ : List ℕ} where
         count = omega (arith, u .count);
       }
 
-  pub upto-all : {n m i : ℕ} → r .len ≤ i → Upto t e s r w w′ n m i → Told ((r .len + 7) / 8) w w′ n m (pack t e (from s r 0))
+  pub upto-all : {n m i : ℕ} → r .len ≤ i → Upto t e s r w w′ n m i → Told ((r .len + 7) / 8) w w′ n m (pack t e (r .from) (from s r 0))
   upto-all {n} {m} {i} h u =
-      let q : u .gone ≡ pack t e (from s r 0) = sym (append-nil (u .gone)) ∙ (rw (behind-none t e s r i h) at (u .all)) ∙ sym (behind-all t e s r) in
-      let x : Told (length (u .gone)) w w′ n m (pack t e (from s r 0)) = rw q (rw q at (u .told)) in
+      let q : u .gone ≡ pack t e (r .from) (from s r 0) = sym (append-nil (u .gone)) ∙ (rw (behind-none t e s r i h) at (u .all)) ∙ sym (behind-all t e s r) in
+      let x : Told (length (u .gone)) w w′ n m (pack t e (r .from) (from s r 0)) = rw q (rw q at (u .told)) in
       record { count = x .count; few = omega (arith, u .count); room = x .room; before = x .before; words = x .words }
 
   pub upto-length : {n m i : ℕ} → Upto t e s r w w′ n m i → length w′ ≡ length w

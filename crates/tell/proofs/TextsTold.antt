@@ -15,10 +15,10 @@ use Rattle.character_strings.proofs.TextLaws.{coded-nil}
 use Rattle.tell.specs.declared.characters.Run.{Run}
 use Rattle.tell.specs.Characters.{unitsFrom, counted, from, Spelt}
 
-module _ (s : List ℕ) (at len w c : ℕ) where
+module _ (s : List ℕ) (f at len w c : ℕ) where
   -- all of them
   abbrev run : Bool → Run
-  run t = record { at = at; len = len; width = w; first = c; spaced = t }
+  run t = record { from = f; at = at; len = len; width = w; first = c; spaced = t }
 
   units-all : (t : Bool) → unitsFrom s (run t) 0 ≡ units (bitOf s) w at len
   units-all t =
@@ -37,10 +37,10 @@ module _ (s : List ℕ) (at len w c : ℕ) where
 ---------------------------------------------------------------- where they stand
 
 module _ {s : List ℕ} {x : Text} where
-  pub spelt-text : InFrame 7 s x → Spelt s (run s (x .at) (x .len) 7 0 false)
+  pub spelt-text : InFrame 7 s x → Spelt s (run s (x .from) (x .at) (x .len) 7 0 false)
   spelt-text h = record { there = h .there; fits = h .fits; narrow = omega arith; octet = omega arith; numeric = λ q. absurd (let z : _≡_ {A = ℕ} 0 1 = cc in omega arith) }
 
-  pub spelt-channel : (t : Bool) → InFrame 4 s x → Spelt s (run s (x .at) (x .len) 4 48 t)
+  pub spelt-channel : (t : Bool) → InFrame 4 s x → Spelt s (run s (x .from) (x .at) (x .len) 4 48 t)
   spelt-channel t h = record { there = h .there; fits = h .fits; narrow = omega arith; octet = omega arith; numeric = λ q. (refl, refl) }
 
 ---------------------------------------------------------------- their records
@@ -51,17 +51,17 @@ module _ (s : List ℕ) (x : Text) where
 
   -- as the source has them, or as X.680 has them
   abbrev Tells : Bool → ℕ → ℕ → List ℕ → List ℕ → ℕ → ℕ → Type 0
-  Tells b t e w w′ n m = Told ((x .len + 7) / 8) w w′ n m (pack t e (from s (record { at = x .at; len = x .len; width = 4; first = 48; spaced = b }) 0))
+  Tells b t e w w′ n m = Told ((x .len + 7) / 8) w w′ n m (pack t e (x .from) (from s (record { from = x .from; at = x .at; len = x .len; width = 4; first = 48; spaced = b }) 0))
 
 module _ (t e : ℕ) (s : List ℕ) (x : Text) {w w′ : List ℕ} {n m : ℕ} where
-  pub told-text : x .len < 512 → Told ((x .len + 7) / 8) w w′ n m (pack t e (from s (record { at = x .at; len = x .len; width = 7; first = 0; spaced = false }) 0)) → Told 64 w w′ n m (textRecs t e s x)
+  pub told-text : x .len < 512 → Told ((x .len + 7) / 8) w w′ n m (pack t e (x .from) (from s (record { from = x .from; at = x .at; len = x .len; width = 7; first = 0; spaced = false }) 0)) → Told 64 w w′ n m (textRecs t e s x)
   unfolding textRecs
-  told-text h p = told-within 64 (omega arith) (rw (from-coded s (x .at) (x .len) 7 0, coded-nil (units (bitOf s) 7 (x .at) (x .len))) at p)
+  told-text h p = told-within 64 (omega arith) (rw (from-coded s (x .from) (x .at) (x .len) 7 0, coded-nil (units (bitOf s) 7 (x .at) (x .len))) at p)
 
   pub told-digits : (u : ℕ) → x .len ≤ 12 → noneAbove 10 (characters s x) ≡ false → Tells s x false t e w w′ n m → Told 4 w w′ n m (channelRecs t u e s x)
   unfolding channelRecs
-  told-digits u h q p = told-within {j = (x .len + 7) / 8} 4 (omega arith) (rw (q, append-nil (pack t e (coded 48 (characters s x)))) (rw (from-coded s (x .at) (x .len) 4 48) at p))
+  told-digits u h q p = told-within {j = (x .len + 7) / 8} 4 (omega arith) (rw (q, append-nil (pack t e (x .from) (coded 48 (characters s x)))) (rw (from-coded s (x .from) (x .at) (x .len) 4 48) at p))
 
   pub told-both : {w″ : List ℕ} {l : ℕ} (u : ℕ) → x .len ≤ 12 → noneAbove 10 (characters s x) ≡ true → Tells s x false t e w w′ n m → Tells s x true u e w′ w″ m l → Told 4 w w″ n l (channelRecs t u e s x)
   unfolding channelRecs
-  told-both u h q p r = told-within {j = (x .len + 7) / 8 + (x .len + 7) / 8} 4 (omega arith) (rw q (told-then (rw (from-coded s (x .at) (x .len) 4 48) at p) (rw (from-spaced s (x .at) (x .len) 4 48) at r)))
+  told-both u h q p r = told-within {j = (x .len + 7) / 8 + (x .len + 7) / 8} 4 (omega arith) (rw q (told-then (rw (from-coded s (x .from) (x .at) (x .len) 4 48) at p) (rw (from-spaced s (x .from) (x .at) (x .len) 4 48) at r)))

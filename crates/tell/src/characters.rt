@@ -9,8 +9,9 @@ use numeric_strings::spaced_eight;
 use per::number::wide;
 use records::emit;
 
-// The place of the first character's bit, the number of characters, the bits of each, and the code of the first of the alphabet; whether they are told as X.680 has the characters of a NumericString.
+// Where the field starts; the place of the first character's bit, the number of characters, the bits of each, and the code of the first of the alphabet; whether they are told as X.680 has the characters of a NumericString.
 pub struct Run {
+    pub from: usize,
     pub at: usize,
     pub len: usize,
     pub width: usize,
@@ -24,14 +25,15 @@ const ONES: u64 = 0x0101_0101_0101_0101;
 // All characters, eight to a record, with their number as the second number.
 pub fn tell_run(words: &mut [u64], n: usize, tag: u64, element: u64, s: &[u8], r: Run) -> usize
     requires { ⌜ (n < 2 ^ 31) × (r .len < 512) × Spelt (now s) r ⌝ }
-    ensures { λ m. ⌜ Told ((r .len + 7) / 8) (now (words .entry)) (now (words .exit)) n m (pack tag element (from (now (s .entry)) r 0)) ⌝ }
+    ensures { λ m. ⌜ Told ((r .len + 7) / 8) (now (words .entry)) (now (words .exit)) n m (pack tag element (r .from) (from (now (s .entry)) r 0)) ⌝ }
 {
     let len = r.len;
+    let place = r.from;
     let mut m = n;
     let mut i: usize = 0;
     while i < len {
         let v = told(s, r, i);
-        m = emit(words, m, tag, element, v, len as u64);
+        m = emit(words, m, tag, element, v, len as u64, place);
         i += 8;
     }
     m

@@ -19,6 +19,7 @@ pub fn tell_text(words: &mut [u64], n: usize, tag: u64, element: u64, s: &[u8], 
     ensures { λ m. ⌜ Told 64 (now (words .entry)) (now (words .exit)) n m (textRecs tag element (now (s .entry)) x) ⌝ }
 {
     let run = Run {
+        from: x.from,
         at: x.at,
         len: x.len,
         width: 7,
@@ -42,6 +43,7 @@ pub fn tell_channel(
     ensures { λ m. ⌜ Told 4 (now (words .entry)) (now (words .exit)) n m (channelRecs tag x691 element (now (s .entry)) x) ⌝ }
 {
     let digits = Run {
+        from: x.from,
         at: x.at,
         len: x.len,
         width: 4,
@@ -51,6 +53,7 @@ pub fn tell_channel(
     let m = tell_run(words, n, tag, element, s, digits);
     if none_above_ten(s, x) {
         let numerals = Run {
+            from: x.from,
             at: x.at,
             len: x.len,
             width: 4,

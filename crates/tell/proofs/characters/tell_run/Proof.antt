@@ -6,10 +6,10 @@ use Rattle.tell.proofs.characters.tell_run.Statement.{statement}
 use Rattle.tell.proofs.characters.tell_run.Tie as tie
 
 abbrev Inv-loop : tie.InvT-loop
-Inv-loop words₀ n tag element s r len m₀ i₀ words m i = (i < len + 8) × Upto tag element s r words₀ words m₀ m i
+Inv-loop words₀ n tag element s r len place m₀ i₀ words m i = (i < len + 8) × Upto tag element s r words₀ words m₀ m i
 
 abbrev μ-loop : tie.MeasureT-loop
-μ-loop words₀ n tag element s r len m₀ i₀ words m i = len - i
+μ-loop words₀ n tag element s r len place m₀ i₀ words m i = len - i
 
 loop-holds : tie.Need-loop-holds Inv-loop μ-loop
 loop-holds c = (omega arith, upto-none)
