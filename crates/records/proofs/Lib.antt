@@ -1,3 +1,4 @@
 pub mod Sizes
 pub mod Telling
 pub mod Passes
+pub mod Moving

@@ -6,6 +6,7 @@ ghost use Rattle.atn.specs.Reading.{rec};
 ghost use Rattle.records.specs.Told.{Told};
 
 pub mod front; // front.rt: a record at the front of what is lent
+pub mod places; // places.rt: the places of records that are told already, moved
 pub mod space; // space.rt: how many words records take
 
 // The words of a record.
