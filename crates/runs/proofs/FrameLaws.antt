@@ -15,12 +15,12 @@ use Rattle.cursor.specs.declared.place.Cursor.{Cursor}
 use Rattle.cursor.specs.declared.place.Got.{Got}
 use Rattle.cursor.specs.Place.{put, marked, Pulls, Led}
 use Rattle.cursor.specs.Place as place
-use Rattle.cursor.proofs.Laws.{reads-ok, marked-nil}
+use Rattle.cursor.proofs.Laws.{reads-ok, reads-here, marked-nil}
 use Rattle.records.specs.Told.{Told}
 use Rattle.runs.specs.declared.At.{At}
 use Rattle.runs.specs.Runs.{Ran, stayed, went, passed, failed, Runs}
 use Rattle.runs.specs.Windows.{Tells}
-use Rattle.runs.proofs.RunLaws.{runs-then, runs-told, runs-silent, runs-stayed, runs-pull, runs-clear, runs-set}
+use Rattle.runs.proofs.RunLaws.{runs-then, runs-told, runs-silent, runs-stayed, runs-pull, runs-from, runs-clear, runs-set}
 
 -- a reading that neither carries on nor gives up, from a cursor that goes on
 pub runs-tells : {b : ℕ} (k : ℕ → ℕ → Ans) {s : List ℕ} {c : Cursor} {n : ℕ} {w w′ : List ℕ} {r : At} → c .why ≡ 0 → Tells b k s c n w w′ r → Runs b k s c n w w′ r
@@ -34,8 +34,8 @@ runs-tells k {c = c} {r = r} z x = record { recs = x .recs; ran = λ i. go (x .r
 abbrev forks : Fmt → Fmt → Ctx → List ℕ → ℕ → ℕ → ℕ → Ans
 forks f k x s v u q = fork v (read f x (bitOf s) u q) (then (ok q [] (mark 2)) λ r. read k x (bitOf s) u r)
 
-abbrev chosen : ℕ → Alts → Ctx → List ℕ → ℕ → ℕ → ℕ → Ans
-chosen t fs x s v u p = then (ok p (rec t (x .0) v 0 ∷ []) 0) λ q. readChoice fs v x (bitOf s) u q
+abbrev chosen : ℕ → Alts → Ctx → List ℕ → ℕ → ℕ → ℕ → ℕ → Ans
+chosen t fs x s a v u p = then (ok p (rec t (x .0) v 0 a ∷ []) 0) λ q. readChoice fs v x (bitOf s) u q
 
 module _ (x : Ctx) {s : List ℕ} {c : Cursor} {n : ℕ} {w : List ℕ} where
   ---------------------------------------------------------------- extension bits
@@ -56,23 +56,23 @@ module _ (x : Ctx) {s : List ℕ} {c : Cursor} {n : ℕ} {w : List ℕ} where
 
   ---------------------------------------------------------------- records before a part, and choices
 
-  pub runs-noted : (t v y : ℕ) (f : Fmt) {b m : ℕ} {w₁ w₂ : List ℕ} {r : At} → c .why ≡ 0 → Told 1 w w₁ n m (rec t (x .0) v y ∷ []) → Runs b (λ u p. read f x (bitOf s) u p) s c m w₁ w₂ r
+  pub runs-noted : (t v y : ℕ) (f : Fmt) {b m : ℕ} {w₁ w₂ : List ℕ} {r : At} → c .why ≡ 0 → Told 1 w w₁ n m (rec t (x .0) v y (c .at) ∷ []) → Runs b (λ u p. read f x (bitOf s) u p) s c m w₁ w₂ r
       → Runs (1 + b) (λ u p. read (noted t v y f) x (bitOf s) u p) s c n w w₂ r
   unfolding read isPast
-  runs-noted t v y f z told h = runs-then (λ u p. ok p (rec t (x .0) v y ∷ []) 0) (λ u p. read f x (bitOf s) u p) (λ u p. refl) (runs-told (λ u p. ok p (rec t (x .0) v y ∷ []) 0) (reads-ok (rec t (x .0) v y ∷ []) 0 (marked-nil c)) z told) h
+  runs-noted t v y f z told h = runs-then (λ u p. ok p (rec t (x .0) v y p ∷ []) 0) (λ u p. read f x (bitOf s) u p) (λ u p. refl) (runs-told (λ u p. ok p (rec t (x .0) v y p ∷ []) 0) (reads-here (λ p. rec t (x .0) v y p ∷ []) 0 (marked-nil c)) z told) h
 
   module _ (t : ℕ) (fs : Alts) (g : Got) (pulls : Pulls s c (width (highest (alternativesOf fs))) g) where
     pub runs-no-index : (g .c .why ≡ 0 → ⊥) → Runs 0 (λ u p. read (choice t fs) x (bitOf s) u p) s c n w w (record { n = n; c = g .c })
     unfolding read
-    runs-no-index h = runs-pull (width (highest (alternativesOf fs))) g (chosen t fs x s) pulls (runs-stayed (λ u p. chosen t fs x s (g .v) u p) h)
+    runs-no-index h = runs-from (width (highest (alternativesOf fs))) g (chosen t fs x s) pulls (runs-stayed (λ u p. chosen t fs x s (c .at) (g .v) u p) h)
 
-    pub runs-index : {b m : ℕ} {w₁ w₂ : List ℕ} {r : At} → g .c .why ≡ 0 → Told 1 w w₁ n m (rec t (x .0) (g .v) 0 ∷ []) → Runs b (λ u p. readChoice fs (g .v) x (bitOf s) u p) s (g .c) m w₁ w₂ r
+    pub runs-index : {b m : ℕ} {w₁ w₂ : List ℕ} {r : At} → g .c .why ≡ 0 → Told 1 w w₁ n m (rec t (x .0) (g .v) 0 (c .at) ∷ []) → Runs b (λ u p. readChoice fs (g .v) x (bitOf s) u p) s (g .c) m w₁ w₂ r
         → Runs (1 + b) (λ u p. read (choice t fs) x (bitOf s) u p) s c n w w₂ r
     unfolding read isPast
     runs-index z told y =
-        runs-pull (width (highest (alternativesOf fs))) g (chosen t fs x s) pulls
-        (runs-then (λ u p. ok p (rec t (x .0) (g .v) 0 ∷ []) 0) (λ u p. readChoice fs (g .v) x (bitOf s) u p) (λ u p. refl)
-        (runs-told (λ u p. ok p (rec t (x .0) (g .v) 0 ∷ []) 0) (reads-ok (rec t (x .0) (g .v) 0 ∷ []) 0 (marked-nil (g .c))) z told) y)
+        runs-from (width (highest (alternativesOf fs))) g (chosen t fs x s) pulls
+        (runs-then (λ u p. ok p (rec t (x .0) (g .v) 0 (c .at) ∷ []) 0) (λ u p. readChoice fs (g .v) x (bitOf s) u p) (λ u p. refl)
+        (runs-told (λ u p. ok p (rec t (x .0) (g .v) 0 (c .at) ∷ []) 0) (reads-ok (rec t (x .0) (g .v) 0 (c .at) ∷ []) 0 (marked-nil (g .c))) z told) y)
 
 ---------------------------------------------------------------- a part that is passed over where it fails, its records dropped
 

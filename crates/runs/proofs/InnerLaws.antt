@@ -2,7 +2,7 @@
 use mathlib.Core.Path.{_≡_, refl, sym, ap, _∙_}
 use mathlib.Core.Bool.{Bool, true, false}
 use mathlib.Core.List.{List, []}
-use Prim.Native.Nat.{ℕ, _+_, _-_, _*_, _/_, _%_, _≤_, _<_}
+use Prim.Native.Nat.{ℕ, _+_, _-_, _*_, _/_, _%_, _^_, _≤_, _<_}
 use native.Mathlib.Omega.{arith}
 use lib.ListN.{length, take, drop, length-take, length-drop}
 use lib.Dec.{eqb}
@@ -12,7 +12,9 @@ use Rattle.atn.specs.Format.{Fmt, Why, out, bad, lack, quit, inner}
 use Rattle.atn.specs.Reading.{Rec, Ctx, Ans, ok, past, stop, or, unless, mark, pull, close, shut, read}
 use Rattle.atn.proofs.Steps.{pull-go, pull-no}
 use Rattle.atn.proofs.Marks.{or-assoc, or-nil, or-swap}
-use Rattle.atn.proofs.Shift.{placeless, moved, moved-close, shift}
+use Rattle.atn.proofs.Reach.{reach}
+use Rattle.atn.proofs.Places.{tells, rises}
+use Rattle.atn.proofs.Shift.{placeless, displaced, moved, moved-close, shift}
 use Rattle.per.proofs.Laws.{bitOf-part}
 use Rattle.cursor.specs.declared.place.Cursor.{Cursor}
 use Rattle.length_determinants.specs.declared.Measured.{Measured}
@@ -21,7 +23,10 @@ use Rattle.cursor.specs.Place as place
 use Rattle.length_determinants.specs.Lengths.{Measures, Passes}
 use Rattle.length_determinants.proofs.LengthLaws.{measures-inside}
 use Rattle.records.specs.Told.{Told}
+use Rattle.records.specs.Space.{space}
+use Rattle.records.specs.Moves.{relocated, raisedPlaces}
 use Rattle.records.proofs.Telling.{told-none, told-within}
+use Rattle.records.proofs.Moving.{told-moved, relocated-displaced}
 use Rattle.runs.specs.declared.At.{At}
 use Rattle.runs.specs.Runs.{given, Ran, stayed, went, passed, gaveUp, failed, Runs}
 use Rattle.runs.specs.Windows.{closedWhy, closedMarks, closed, Tells}
@@ -55,10 +60,10 @@ in-part f x s q k z =
 abbrev stringOf : Fmt → List ℕ → ℕ → ℕ → ℕ → Ans
 stringOf f s k u p = pull (bitOf s) u p k (λ _. close (p + k) (read f (0, 0) (bitOf s) (p + k) p))
 
-module _ (f : Fmt) (s : List ℕ) {c d : Cursor} (k : ℕ) (z : placeless f ≡ true) (i : Inside s c) where
+module _ (f : Fmt) (s : List ℕ) {c d : Cursor} (k : ℕ) (z : placeless f ≡ true) (i : Inside s c) (few : length s ≤ 65536) where
   close-led : {r : Cursor} {R : List Rec} → c .why ≡ 0 → c .at + k ≤ c .end → d ≡ put c (c .at + k) 0 (c .marks)
-      → Ran (λ u p. read f (0, 0) (bitOf (part s (c .at) (c .at + k))) u p) (window (c .at) k (d .marks)) r R → Led (stringOf f s k) c (closed d r) R
-  unfolding closed closedWhy closedMarks close shut moved mark unless
+      → Ran (λ u p. read f (0, 0) (bitOf (part s (c .at) (c .at + k))) u p) (window (c .at) k (d .marks)) r R → Led (stringOf f s k) c (closed d r) (relocated (8 * (c .at / 8)) R)
+  unfolding closed closedWhy closedMarks close shut moved mark unless tells reach
   close-led {r} {R} w l q x = go x
     where
       a : ℕ
@@ -70,15 +75,19 @@ module _ (f : Fmt) (s : List ℕ) {c d : Cursor} (k : ℕ) (z : placeless f ≡ 
       same : {y : Ans} → read f (0, 0) (bitOf (part s (c .at) (c .at + k))) (c .at % 8 + k) (c .at % 8) ≡ y → stringOf f s k (c .end) (c .at) ≡ moved a (close (c .at % 8 + k) y)
       same h = pull-go (bitOf s) (c .end) (c .at) k _ l ∙ in-part f (0, 0) s (c .at) k z ∙ ap (λ y. moved a (close (c .at % 8 + k) y)) h
 
-      go : Ran (λ u p. read f (0, 0) (bitOf (part s (c .at) (c .at + k))) u p) (window (c .at) k (d .marks)) r R → Led (stringOf f s k) c (closed d r) R
+      -- the records are told with places in the part, and moved
+      same-recs : {y : Ans} → read f (0, 0) (bitOf (part s (c .at) (c .at + k))) (c .at % 8 + k) (c .at % 8) ≡ y → reach y ≤ c .at % 8 + k → relocated a (tells y) ≡ displaced a (tells y)
+      same-recs {y} h g = relocated-displaced a (c .at % 8) (reach y) (tells y) (rw h at (rises (bitOf (part s (c .at) (c .at + k))) f (0, 0) (c .at % 8 + k) (c .at % 8))) (omega (arith, i .1))
+
+      go : Ran (λ u p. read f (0, 0) (bitOf (part s (c .at) (c .at + k))) u p) (window (c .at) k (d .marks)) r R → Led (stringOf f s k) c (closed d r) (relocated (8 * (c .at / 8)) R)
       go (stayed h _ _) = absurd (h refl)
-      go (went p m _ g _ y) = place.Led.went (c .at + k) (or m (unless (eqb p (c .at % 8 + k)) 6)) w (same g ∙ ap (λ t. ok t R (or m (unless (eqb p (c .at % 8 + k)) 6))) e) l (rw (y, q, or-assoc (c .marks) m (unless (eqb p (c .at % 8 + k)) 6)))
-      go (passed lacked p m _ g _ y) = place.Led.went (c .at + k) (or 64 (or m (unless (eqb p (c .at % 8 + k)) 6))) w (same g ∙ ap (λ t. ok t R (or 64 (or m (unless (eqb p (c .at % 8 + k)) 6)))) e) l (rw (y, q, or-swap 64 m (unless (eqb p (c .at % 8 + k)) 6), or-assoc (or (c .marks) m) 64 (unless (eqb p (c .at % 8 + k)) 6), or-assoc (c .marks) m (or 64 (unless (eqb p (c .at % 8 + k)) 6))))
-      go (gaveUp o false t p m _ g _ y) = place.Led.went (c .at + k) (or (mark t) m) w (same g ∙ ap (λ x. ok x R (or (mark t) m)) e) l (rw (y, q))
-      go (gaveUp o true t p m _ g _ y) = place.Led.went (c .at + k) (or (mark t) (or m (unless (eqb p (c .at % 8 + k)) 6))) w (same g ∙ ap (λ x. ok x R (or (mark t) (or m (unless (eqb p (c .at % 8 + k)) 6)))) e) l (rw (y, q, or-assoc (c .marks) (or (mark t) m) (unless (eqb p (c .at % 8 + k)) 6), or-assoc (mark t) m (unless (eqb p (c .at % 8 + k)) 6)))
-      go (failed (out lacked) p m S n _ g _ y) = place.Led.failed bad (c .at + k) m S (λ h. omega arith) w (same g ∙ ap (λ t. stop bad t S m) e) l (closed-out d r lacked (ap (λ (x : Cursor). x .why) y) ∙ rw (y, q))
-      go (failed bad p m S n _ g _ y) = place.Led.failed bad (c .at + k) m S (λ h. omega arith) w (same g ∙ ap (λ t. stop bad t S m) e) l (rw (y, q))
-      go (failed lack p m S n _ g _ y) = place.Led.failed lack (c .at + k) m S (λ h. omega arith) w (same g ∙ ap (λ t. stop lack t S m) e) l (rw (y, q))
+      go (went p m _ g u y) = place.Led.went (c .at + k) (or m (unless (eqb p (c .at % 8 + k)) 6)) w (same g ∙ rw (same-recs g u) (ap (λ t. ok t (displaced a R) (or m (unless (eqb p (c .at % 8 + k)) 6))) e)) l (rw (y, q, or-assoc (c .marks) m (unless (eqb p (c .at % 8 + k)) 6)))
+      go (passed lacked p m _ g u y) = place.Led.went (c .at + k) (or 64 (or m (unless (eqb p (c .at % 8 + k)) 6))) w (same g ∙ rw (same-recs g u) (ap (λ t. ok t (displaced a R) (or 64 (or m (unless (eqb p (c .at % 8 + k)) 6)))) e)) l (rw (y, q, or-swap 64 m (unless (eqb p (c .at % 8 + k)) 6), or-assoc (or (c .marks) m) 64 (unless (eqb p (c .at % 8 + k)) 6), or-assoc (c .marks) m (or 64 (unless (eqb p (c .at % 8 + k)) 6))))
+      go (gaveUp o false t p m _ g u y) = place.Led.went (c .at + k) (or (mark t) m) w (same g ∙ rw (same-recs g u) (ap (λ x. ok x (displaced a R) (or (mark t) m)) e)) l (rw (y, q))
+      go (gaveUp o true t p m _ g u y) = place.Led.went (c .at + k) (or (mark t) (or m (unless (eqb p (c .at % 8 + k)) 6))) w (same g ∙ rw (same-recs g u) (ap (λ x. ok x (displaced a R) (or (mark t) (or m (unless (eqb p (c .at % 8 + k)) 6)))) e)) l (rw (y, q, or-assoc (c .marks) (or (mark t) m) (unless (eqb p (c .at % 8 + k)) 6), or-assoc (mark t) m (unless (eqb p (c .at % 8 + k)) 6)))
+      go (failed (out lacked) p m S n _ g _ y) = place.Led.failed bad (c .at + k) m (displaced a S) (λ h. omega arith) w (same g ∙ ap (λ t. stop bad t (displaced a S) m) e) l (closed-out d r lacked (ap (λ (x : Cursor). x .why) y) ∙ rw (y, q))
+      go (failed bad p m S n _ g _ y) = place.Led.failed bad (c .at + k) m (displaced a S) (λ h. omega arith) w (same g ∙ ap (λ t. stop bad t (displaced a S) m) e) l (rw (y, q))
+      go (failed lack p m S n _ g _ y) = place.Led.failed lack (c .at + k) m (displaced a S) (λ h. omega arith) w (same g ∙ ap (λ t. stop lack t (displaced a S) m) e) l (rw (y, q))
       go (failed (quit o j t) p m S n _ g _ y) = absurd (n refl)
 
 ---------------------------------------------------------------- the string
@@ -104,14 +113,14 @@ module _ (f : Fmt) {s : List ℕ} {c d : Cursor} {l : Measured} (z : placeless f
       go i (got g y v q) = absurd (h (rw q refl))
 
   -- it is there, and was read as a part of the frame
-  pub inner-read : {b n : ℕ} {w w′ : List ℕ} {r : At} → d .why ≡ 0 → Runs b (λ u p. read f (0, 0) (bitOf (part s (l .c .at) (l .c .at + l .count))) u p) (part s (l .c .at) (l .c .at + l .count)) (window (l .c .at) (l .count) (d .marks)) n w w′ r
-      → Tells b reading s c n w w′ (record { n = r .n; c = closed d (r .c) })
-  inner-read {b} {n} {w} {w′} {r} h x = record { recs = x .recs; reads = from-length (record { led = λ i. go i (passes .pulls s .gave i) }); told = x .told }
+  pub inner-read : {b n : ℕ} {w w′ : List ℕ} {r : At} → length s ≤ 65536 → d .why ≡ 0 → Runs b (λ u p. read f (0, 0) (bitOf (part s (l .c .at) (l .c .at + l .count))) u p) (part s (l .c .at) (l .c .at + l .count)) (window (l .c .at) (l .count) (d .marks)) n w w′ r
+      → Tells b reading s c n w (raisedPlaces (8 * (l .c .at / 8)) (r .n - n) (space n) w′) (record { n = r .n; c = closed d (r .c) })
+  inner-read {b} {n} {w} {w′} {r} few h x = record { recs = relocated (8 * (l .c .at / 8)) (x .recs); reads = from-length (record { led = λ i. go i (passes .pulls s .gave i) }); told = told-moved (8 * (l .c .at / 8)) (x .told) }
     where
-      go : Inside s (l .c) → Pulled s (l .c) (l .count) (record { v = uint (bitOf s) (l .c .at) (l .count); c = d }) → Led (stringOf f s (l .count)) (l .c) (closed d (r .c)) (x .recs)
+      go : Inside s (l .c) → Pulled s (l .c) (l .count) (record { v = uint (bitOf s) (l .c .at) (l .count); c = d }) → Led (stringOf f s (l .count)) (l .c) (closed d (r .c)) (relocated (8 * (l .c .at / 8)) (x .recs))
       go i (stuck g q) = absurd (g (rw q at h))
       go i (short g y q) = absurd (let u = rw q at h in omega arith)
-      go i (got g y v q) = close-led f s (l .count) z i g y q (x .ran inside)
+      go i (got g y v q) = close-led f s (l .count) z i few g y q (x .ran inside)
         where
           inside : Inside (part s (l .c .at) (l .c .at + l .count)) (window (l .c .at) (l .count) (d .marks))
           inside = (omega arith, omega (arith, i .1, y, length-take ((l .c .at + l .count + 7) / 8 - l .c .at / 8) (drop (l .c .at / 8) s), length-drop (l .c .at / 8) s))

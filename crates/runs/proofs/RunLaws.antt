@@ -204,12 +204,12 @@ module _ (x : Ctx) (s : List ℕ) {c d : Cursor} {R : List Rec} where
 
   -- the same where its absence has a record
   pub ran-note : {e : Cursor} {S : List Rec} (t v y : ℕ) (f : Fmt) (fs : Flds) (q has : ℕ) → firm f ≡ true → (c .why ≡ 0 → has ≡ bitOf s q)
-      → Ran (λ u p. fork has (ok p (rec t (x .0) v y ∷ []) 0) (read f x (bitOf s) u p)) c d R → Ran (λ u p. readFields fs x (bitOf s) u (suc q) p) d e S → Ran (λ u p. readFields (orNote t v y f fs) x (bitOf s) u q p) c e (R ++ S)
+      → Ran (λ u p. fork has (ok p (rec t (x .0) v y p ∷ []) 0) (read f x (bitOf s) u p)) c d R → Ran (λ u p. readFields fs x (bitOf s) u (suc q) p) d e S → Ran (λ u p. readFields (orNote t v y f fs) x (bitOf s) u q p) c e (R ++ S)
   unfolding readFields isPast
   ran-note t v y f fs q has hard bit z g =
-      ran-same (λ u p. then (fork has (ok p (rec t (x .0) v y ∷ []) 0) (read f x (bitOf s) u p)) (λ r. readFields fs x (bitOf s) u (suc q) r)) (λ u p. readFields (orNote t v y f fs) x (bitOf s) u q p)
-      (λ k. fork-then has (c .at) _ _ (rec t (x .0) v y ∷ []) ∙ rw (bit k))
-      (ran-then (λ u p. fork has (ok p (rec t (x .0) v y ∷ []) 0) (read f x (bitOf s) u p)) (λ u p. readFields fs x (bitOf s) u (suc q) p) (firm-fork has _ _ refl (firm-read (bitOf s) f x (c .end) (c .at) hard)) z g)
+      ran-same (λ u p. then (fork has (ok p (rec t (x .0) v y p ∷ []) 0) (read f x (bitOf s) u p)) (λ r. readFields fs x (bitOf s) u (suc q) r)) (λ u p. readFields (orNote t v y f fs) x (bitOf s) u q p)
+      (λ k. fork-then has (c .at) _ _ (rec t (x .0) v y (c .at) ∷ []) ∙ rw (bit k))
+      (ran-then (λ u p. fork has (ok p (rec t (x .0) v y p ∷ []) 0) (read f x (bitOf s) u p)) (λ u p. readFields fs x (bitOf s) u (suc q) p) (firm-fork has _ _ refl (firm-read (bitOf s) f x (c .end) (c .at) hard)) z g)
 
 -- a reading that begins at another place of the window
 ran-from : {c e d : Cursor} {p : ℕ} {R : List Rec} (k l : ℕ → ℕ → Ans) → c .why ≡ 0 → e ≡ put c p 0 (c .marks) → k (c .end) p ≡ l (c .end) (c .at) → Ran k e d R → Ran l c d R
@@ -243,3 +243,8 @@ runs-pull {s = s} {c} {r = r} n g k o y = record { recs = y .recs; ran = λ i. g
         let t = ran-stays _ (g .c) (r .c) (rw q (λ y. omega arith)) x in
         failed (out (c .at + n - c .end)) (c .at) 0 [] (λ y. omega arith) z (pull-no (bitOf s) (c .end) (c .at) n _ l) (i .0) (t .0 ∙ q ∙ rw (or-nil (c .marks)))
     go i (got z l v q) x = ran-from (λ u p. k (g .v) u p) (Behind s n k) z q (sym (pull-go (bitOf s) (c .end) (c .at) n _ l ∙ rw (← v))) x
+
+-- the same where what follows also knows the place at which the bits started
+pub runs-from : {b : ℕ} {s : List ℕ} {c : Cursor} {m : ℕ} {w w′ : List ℕ} {r : At} (n : ℕ) (g : Got) (k : ℕ → ℕ → ℕ → ℕ → Ans) → Pulls s c n g → Runs b (λ u p. k (c .at) (g .v) u p) s (g .c) m w w′ r
+    → Runs b (λ u p. pull (bitOf s) u p n (λ v. k p v u (p + n))) s c m w w′ r
+runs-from {s = s} {c} n g k x y = runs-same (Behind s n (k (c .at))) (λ u p. pull (bitOf s) u p n (λ v. k p v u (p + n))) (λ _ _. refl) (runs-pull n g (k (c .at)) x y)

@@ -40,7 +40,7 @@ whys (stop w p R m) = number w
 
 unfoldable first : List Rec → ℕ
 first [] = 0
-first (rec t n v y ∷ R) = t
+first (rec t n v y q ∷ R) = t
 
 unfoldable told : Ans → ℕ
 told (ok p R m) = first R
@@ -61,11 +61,11 @@ data SizedAt (row : ℕ) (s : List ℕ) (c : Cursor) (g : Got) : Type 0 where
 
 -- a reading behind the size that tells what it was
 abbrev told-size : ℕ → ℕ → Ans
-told-size n q = ok q (rec n 0 0 0 ∷ []) 0
+told-size n q = ok q (rec n 0 0 0 0 ∷ []) 0
 
 sized-at : (row : ℕ) {s : List ℕ} {c : Cursor} {g : Got} → Sized row s c g → Inside s c → SizedAt row s c g
 unfolding sized then glue stand marks whys told first shape
-sized-at row {s} {c} {g} h i = go (h .size (λ n u q. told-size n q) (reads-ok (rec (g .v) 0 0 0 ∷ []) 0 (marked-nil (g .c))) .led i)
+sized-at row {s} {c} {g} h i = go (h .size (λ n u q. told-size n q) (reads-ok (rec (g .v) 0 0 0 0 ∷ []) 0 (marked-nil (g .c))) .led i)
   where
     lo : ℕ
     lo = lowest row
@@ -85,12 +85,12 @@ sized-at row {s} {c} {g} h i = go (h .size (λ n u q. told-size n q) (reads-ok (
     away : c .end < c .at + w → (K : ℕ → ℕ → Ans) → sized (bitOf s) (c .end) (c .at) lo hi K ≡ stop (out (c .at + w - c .end)) (c .at) [] 0
     away l K = pull-no (bitOf s) (c .end) (c .at) w _ l
 
-    go : Led (λ u p. sized (bitOf s) u p lo hi (λ n q. told-size n q)) c (g .c) (rec (g .v) 0 0 0 ∷ []) → SizedAt row s c g
+    go : Led (λ u p. sized (bitOf s) u p lo hi (λ n q. told-size n q)) c (g .c) (rec (g .v) 0 0 0 0 ∷ []) → SizedAt row s c g
     go (place.Led.stayed n q) = stuck n q
     go (place.Led.went p m z a l q) =
         split (c .at + w) (c .end)
         (λ y.
-        let a′ : ok (c .at + w) (rec (lo + v) 0 0 0 ∷ []) (or (over hi (lo + v)) 0) ≡ ok p (rec (g .v) 0 0 0 ∷ []) m = sym (there y told-size) ∙ a in
+        let a′ : ok (c .at + w) (rec (lo + v) 0 0 0 0 ∷ []) (or (over hi (lo + v)) 0) ≡ ok p (rec (g .v) 0 0 0 0 ∷ []) m = sym (there y told-size) ∙ a in
         let e₁ : c .at + w ≡ p = ap stand a′ in
         let e₂ : lo + v ≡ g .v = ap told a′ in
         let e₃ : over hi (lo + v) ≡ m = sym (or-nil (over hi (lo + v))) ∙ ap marks a′ in
