@@ -15,6 +15,8 @@ use Rattle.cursor.specs.declared.place.Cursor.{Cursor}
 use Rattle.length_determinants.specs.declared.Measured.{Measured}
 use Rattle.length_determinants.specs.Lengths.{Measures, Passes}
 use Rattle.cursor.specs.Place.{stopped, Inside}
+use Rattle.records.specs.Space.{space}
+use Rattle.records.specs.Moves.{raisedPlaces}
 use Rattle.runs.specs.declared.At.{At}
 use Rattle.runs.specs.Runs.{Runs}
 use Rattle.runs.specs.Windows.{closed, Tells}
@@ -83,6 +85,7 @@ module _ (f : Fmt) {s : List ℕ} {c d : Cursor} {n : ℕ} {w : List ℕ} (z : p
       by true q = inner-off f z (x .measures) (x .passes) (eqb-true (x .behind .why) 0 q) (x .off (eqb-true (x .behind .why) 0 q))
       by false q = rw (x .same (eqb-false (x .behind .why) 0 q)) (inner-lost f z (x .measures) (x .passes) (eqb-false (x .behind .why) 0 q))
 
-  pub tells-read : {b from to : ℕ} {window : Cursor} {w′ : List ℕ} {r : At} → Has s c from to window d → Runs b (λ u p. read f (0, 0) (bitOf (bytes s from to)) u p) (bytes s from to) window n w w′ r
-      → Tells b (λ u p. read (inner f) (0, 0) (bitOf s) u p) s c n w w′ (record { n = r .n; c = closed d (r .c) })
-  tells-read h x = inner-read f z (h .measures) (h .passes) (h .goes) (rw (h .first-byte, h .last-byte, h .bits) at x)
+  -- behind the reading its records are moved by the bits in front of the string's first byte
+  pub tells-read : {b from to : ℕ} {window : Cursor} {w′ : List ℕ} {r : At} → length s ≤ 65536 → Has s c from to window d → Runs b (λ u p. read f (0, 0) (bitOf (bytes s from to)) u p) (bytes s from to) window n w w′ r
+      → Tells b (λ u p. read (inner f) (0, 0) (bitOf s) u p) s c n w (raisedPlaces (8 * from) (r .n - n) (space n) w′) (record { n = r .n; c = closed d (r .c) })
+  tells-read few h x = rw (h .first-byte) (inner-read f z (h .measures) (h .passes) few (h .goes) (rw (h .first-byte, h .last-byte, h .bits) at x))
