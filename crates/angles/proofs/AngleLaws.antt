@@ -33,24 +33,24 @@ module _ (t k j : ℕ) where
       ∥ none-left
 
 module _ {k j : ℕ} {s : List ℕ} {c : Cursor} (g : Got) (p : Pulls s c 2 g) where
-  pub form-zero : g .v ≡ 0 → (a : Got) → Ranged k s (g .c) a → Forms k j s c (record { form = record { form = 0; first = a .v; second = 0; third = 0 }; c = a .c })
+  pub form-zero : g .v ≡ 0 → (a : Got) → Ranged k s (g .c) a → Forms k j s c (record { form = record { form = 0; «form_at» = c .at; first = a .v; «first_at» = g .c .at; second = 0; «second_at» = 0; third = 0; «third_at» = 0 }; c = a .c })
   unfolding readChoice width widthIn encoding.highest count
   form-zero z a h = record { reads = λ t. takes-index t (alts t k j) 0 _ g p z (λ x u q. refl) (h .number (t + 1)) }
 
-  pub form-one : g .v ≡ 1 → (a : Got) → Ranged j s (g .c) a → (b : Got) → Ranged 9 s (a .c) b → Forms k j s c (record { form = record { form = 1; first = a .v; second = b .v; third = 0 }; c = b .c })
+  pub form-one : g .v ≡ 1 → (a : Got) → Ranged j s (g .c) a → (b : Got) → Ranged 9 s (a .c) b → Forms k j s c (record { form = record { form = 1; «form_at» = c .at; first = a .v; «first_at» = g .c .at; second = b .v; «second_at» = a .c .at; third = 0; «third_at» = 0 }; c = b .c })
   unfolding readChoice flags allRead width widthIn encoding.highest count
   form-one z a h b i = record { reads = λ t. takes-index t (alts t k j) 1 _ g p z (λ x u q. refl) (takes-plain refl refl (fields-must (h .number (t + 2)) (fields-last (i .number (t + 3))))) }
 
   pub form-two : g .v ≡ 2 → (a : Got) → Ranged j s (g .c) a → (b : Got) → Ranged 5 s (a .c) b → (e : Got) → Ranged 5 s (b .c) e
-      → Forms k j s c (record { form = record { form = 2; first = a .v; second = b .v; third = e .v }; c = e .c })
+      → Forms k j s c (record { form = record { form = 2; «form_at» = c .at; first = a .v; «first_at» = g .c .at; second = b .v; «second_at» = a .c .at; third = e .v; «third_at» = b .c .at }; c = e .c })
   unfolding readChoice flags allRead width widthIn encoding.highest count
   form-two z a h b i e l =
       record { reads = λ t. takes-index t (alts t k j) 2 _ g p z (λ x u q. refl) (takes-plain refl refl (fields-must (h .number (t + 2)) (fields-must (i .number (t + 4)) (fields-last (l .number (t + 5)))))) }
 
   -- any other index is not listed
-  pub form-none : (g .v ≡ 0 → ⊥) → (g .v ≡ 1 → ⊥) → (g .v ≡ 2 → ⊥) → {d : Cursor} → d ≡ stopped (g .c) 5 1 → Forms k j s c (record { form = record { form = 0; first = 0; second = 0; third = 0 }; c = d })
+  pub form-none : (g .v ≡ 0 → ⊥) → (g .v ≡ 1 → ⊥) → (g .v ≡ 2 → ⊥) → {d : Cursor} {v : Form} → d ≡ stopped (g .c) 5 1 → Forms k j s c (record { form = v; c = d })
   unfolding readChoice mark width widthIn encoding.highest count
-  form-none z₀ z₁ z₂ {d} q = record { reads = λ t. takes-unlisted t (alts t k j) g p (λ x u r. go t (g .v) x u r z₀ z₁ z₂) q }
+  form-none z₀ z₁ z₂ {d} {v} q = record { reads = λ t. takes-unlisted t (alts t k j) g p (λ x u r. go t (g .v) x u r z₀ z₁ z₂) q }
     where
       go : (t v : ℕ) (x : Ctx) (u r : ℕ) → (v ≡ 0 → ⊥) → (v ≡ 1 → ⊥) → (v ≡ 2 → ⊥) → readChoice (alts t k j) v x (bitOf s) u r ≡ stop bad r [] 1
       go t zero x u r y₀ y₁ y₂ = absurd (y₀ refl)
@@ -60,7 +60,7 @@ module _ {k j : ℕ} {s : List ℕ} {c : Cursor} (g : Got) (p : Pulls s c 2 g) w
 
 -- two presence bits, and an angle for each
 pub pair-reads : {f h : Fmt} {s : List ℕ} {c d e : Cursor} {T U : ℕ → List Rec} (g : Got) → Opens s c 2 g → Maybe (g .v / 2 % 2) f s (g .c) d T → Maybe (g .v % 2) h s d e U
-    → Takes (noted 34 0 0 (seq (f ⨾? h ⨾? end))) s c e (λ n. rec 34 n 0 0 ∷ (T n ++ U n))
+    → Takes (noted 34 0 0 (seq (f ⨾? h ⨾? end))) s c e (λ n. rec 34 n 0 0 (c .at) ∷ (T n ++ U n))
 unfolding flags allRead
 pair-reads {f} {h} {s} {c} {d} {e} g o x y =
     takes-noted 34 0 0 (takes-opened 2 g refl refl o λ i.

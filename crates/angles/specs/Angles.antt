@@ -32,15 +32,15 @@ abbrev pub angle : ℕ → ℕ → ℕ → Fmt
 angle t k j = seq (form t k j ⨾ num (t + 6) (lowest 0) (highest 0) ⨾ end)
 
 abbrev pub numbers : ℕ → ℕ → Form → ℕ → List Rec
-numbers zero t v n = rec (t + 1) n (v .first) 0 ∷ []
-numbers (suc zero) t v n = rec (t + 2) n (v .first) 0 ∷ rec (t + 3) n (v .second) 0 ∷ []
-numbers (suc (suc f)) t v n = rec (t + 2) n (v .first) 0 ∷ rec (t + 4) n (v .second) 0 ∷ rec (t + 5) n (v .third) 0 ∷ []
+numbers zero t v n = rec (t + 1) n (v .first) 0 (v .«first_at») ∷ []
+numbers (suc zero) t v n = rec (t + 2) n (v .first) 0 (v .«first_at») ∷ rec (t + 3) n (v .second) 0 (v .«second_at») ∷ []
+numbers (suc (suc f)) t v n = rec (t + 2) n (v .first) 0 (v .«first_at») ∷ rec (t + 4) n (v .second) 0 (v .«second_at») ∷ rec (t + 5) n (v .third) 0 (v .«third_at») ∷ []
 
 abbrev pub formRecs : ℕ → Form → ℕ → List Rec
-formRecs t v n = rec t n (v .form) 0 ∷ numbers (v .form) t v n
+formRecs t v n = rec t n (v .form) 0 (v .«form_at») ∷ numbers (v .form) t v n
 
 unfoldable pub angleRecs : ℕ → Angle → ℕ → List Rec
-angleRecs t v n = formRecs t (v .form) n ++ (rec (t + 6) n (v .side) 0 ∷ [])
+angleRecs t v n = formRecs t (v .form) n ++ (rec (t + 6) n (v .side) 0 (v .«side_at») ∷ [])
 
 -- nothing where it is absent
 abbrev pub unlessAbsent : ℕ → List Rec → List Rec
@@ -48,7 +48,7 @@ unlessAbsent zero R = []
 unlessAbsent (suc h) R = R
 
 unfoldable pub pairRecs : Pair → ℕ → List Rec
-pairRecs v n = rec 34 n 0 0 ∷ (unlessAbsent (v .latitude .has) (angleRecs 35 (v .latitude .angle) n) ++ unlessAbsent (v .longitude .has) (angleRecs 42 (v .longitude .angle) n))
+pairRecs v n = rec 34 n 0 0 (v .at) ∷ (unlessAbsent (v .latitude .has) (angleRecs 35 (v .latitude .angle) n) ++ unlessAbsent (v .longitude .has) (angleRecs 42 (v .longitude .angle) n))
 
 abbrev pub maybePairRecs : MaybePair → ℕ → List Rec
 maybePairRecs v n = unlessAbsent (v .has) (pairRecs (v .pair) n)

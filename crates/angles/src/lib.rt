@@ -1,4 +1,5 @@
 // Latitude and longitude: a form, one to three numbers, and a side. They differ in their ranges and tags alone.
+ghost use mathlib.Core.Path.{_≡_};
 ghost use Rattle.field_ranges.specs.Ranges.{Listed};
 ghost use Rattle.angles.specs.Angles.{Forms, Angles, MaybeAngles, Pairs, MaybePairs};
 use cursor::place::Cursor;
@@ -18,9 +19,13 @@ use ranged_numbers::ranged;
 // Form 0: thousandths of a degree; 1: degrees and hundredths of a minute; 2: degrees, minutes and seconds.
 pub struct Form {
     pub form: u64,
+    pub form_at: usize,
     pub first: u64,
+    pub first_at: usize,
     pub second: u64,
+    pub second_at: usize,
     pub third: u64,
+    pub third_at: usize,
 }
 
 pub struct FormAt {
@@ -31,6 +36,7 @@ pub struct FormAt {
 pub struct Angle {
     pub form: Form,
     pub side: u64,
+    pub side_at: usize,
 }
 
 pub struct AngleAt {
@@ -49,7 +55,9 @@ pub struct MaybeAngleAt {
     pub c: Cursor,
 }
 
+// at: where the pair starts, its presence bits included
 pub struct Pair {
+    pub at: usize,
     pub latitude: MaybeAngle,
     pub longitude: MaybeAngle,
 }
@@ -69,6 +77,34 @@ pub struct MaybePairAt {
     pub c: Cursor,
 }
 
+fn no_form() -> Form {
+    Form {
+        form: 0,
+        form_at: 0,
+        first: 0,
+        first_at: 0,
+        second: 0,
+        second_at: 0,
+        third: 0,
+        third_at: 0,
+    }
+}
+
+fn no_angle() -> MaybeAngle
+    ensures { λ r. ⌜ r .has ≡ 0 ⌝ }
+{
+    let form = no_form();
+    let angle = Angle {
+        form: form,
+        side: 0,
+        side_at: 0,
+    };
+    MaybeAngle {
+        has: 0,
+        angle: angle,
+    }
+}
+
 // The form and its numbers, by the ranges of the thousandths and of the degrees.
 fn read_form(s: &[u8], c: Cursor, thousandths: Range, degrees: Range) -> FormAt
     requires { ⌜ Listed thousandths × Listed degrees ⌝ }
@@ -81,9 +117,13 @@ fn read_form(s: &[u8], c: Cursor, thousandths: Range, degrees: Range) -> FormAt
         let end = a.c;
         let form = Form {
             form: 0,
+            form_at: c.at,
             first: a.v,
+            first_at: index.c.at,
             second: 0,
+            second_at: 0,
             third: 0,
+            third_at: 0,
         };
         return FormAt { form: form, c: end };
     }
@@ -93,9 +133,13 @@ fn read_form(s: &[u8], c: Cursor, thousandths: Range, degrees: Range) -> FormAt
         let end = b.c;
         let form = Form {
             form: 1,
+            form_at: c.at,
             first: a.v,
+            first_at: index.c.at,
             second: b.v,
+            second_at: a.c.at,
             third: 0,
+            third_at: 0,
         };
         return FormAt { form: form, c: end };
     }
@@ -106,19 +150,18 @@ fn read_form(s: &[u8], c: Cursor, thousandths: Range, degrees: Range) -> FormAt
         let end = d.c;
         let form = Form {
             form: 2,
+            form_at: c.at,
             first: a.v,
+            first_at: index.c.at,
             second: b.v,
+            second_at: a.c.at,
             third: d.v,
+            third_at: b.c.at,
         };
         return FormAt { form: form, c: end };
     }
     let end = stop(index.c, 5, 1);
-    let form = Form {
-        form: 0,
-        first: 0,
-        second: 0,
-        third: 0,
-    };
+    let form = no_form();
     FormAt { form: form, c: end }
 }
 
@@ -133,6 +176,7 @@ fn read_angle(s: &[u8], c: Cursor, thousandths: Range, degrees: Range) -> AngleA
     let angle = Angle {
         form: f,
         side: side.v,
+        side_at: form.c.at,
     };
     AngleAt {
         angle: angle,
@@ -151,20 +195,7 @@ fn read_maybe_angle(
     ensures { λ r. ⌜ MaybeAngles has (thousandths .row) (degrees .row) (now (s .entry)) c r ⌝ }
 {
     if has == 0 {
-        let form = Form {
-            form: 0,
-            first: 0,
-            second: 0,
-            third: 0,
-        };
-        let angle = Angle {
-            form: form,
-            side: 0,
-        };
-        let none = MaybeAngle {
-            has: 0,
-            angle: angle,
-        };
+        let none = no_angle();
         return MaybeAngleAt { maybe: none, c: c };
     }
     let a = read_angle(s, c, thousandths, degrees);
@@ -203,27 +234,11 @@ pub fn read_latlon(s: &[u8], c: Cursor) -> PairAt
     let b = longitude.maybe;
     let end = longitude.c;
     let pair = Pair {
+        at: c.at,
         latitude: a,
         longitude: b,
     };
     PairAt { pair: pair, c: end }
-}
-
-fn no_angle() -> MaybeAngle {
-    let form = Form {
-        form: 0,
-        first: 0,
-        second: 0,
-        third: 0,
-    };
-    let angle = Angle {
-        form: form,
-        side: 0,
-    };
-    MaybeAngle {
-        has: 0,
-        angle: angle,
-    }
 }
 
 pub fn read_maybe_latlon(s: &[u8], c: Cursor, has: u64) -> MaybePairAt
@@ -233,6 +248,7 @@ pub fn read_maybe_latlon(s: &[u8], c: Cursor, has: u64) -> MaybePairAt
         let a = no_angle();
         let b = no_angle();
         let pair = Pair {
+            at: 0,
             latitude: a,
             longitude: b,
         };

@@ -8,9 +8,13 @@ use ranged_numbers::ranged;
 
 pub struct Code {
     pub first: u64,
+    pub first_at: usize,
     pub second: u64,
+    pub second_at: usize,
     pub third: u64,
+    pub third_at: usize,
     pub fourth: u64,
+    pub fourth_at: usize,
 }
 
 pub struct CodeAt {
@@ -28,16 +32,22 @@ pub fn read_code(s: &[u8], c: Cursor) -> CodeAt
     let end = fourth.c;
     let code = Code {
         first: first.v,
+        first_at: c.at,
         second: second.v,
+        second_at: first.c.at,
         third: third.v,
+        third_at: second.c.at,
         fourth: fourth.v,
+        fourth_at: third.c.at,
     };
     CodeAt { code: code, c: end }
 }
 
 pub struct Runway {
     pub direction: u64,
+    pub direction_at: usize,
     pub side: u64,
+    pub side_at: usize,
 }
 
 pub struct RunwayAt {
@@ -53,7 +63,9 @@ pub fn read_runway(s: &[u8], c: Cursor) -> RunwayAt
     let end = side.c;
     let runway = Runway {
         direction: direction.v,
+        direction_at: c.at,
         side: side.v,
+        side_at: direction.c.at,
     };
     RunwayAt {
         runway: runway,

@@ -1,4 +1,5 @@
 // Names and reasons with an extension marker. An extended one is told as value 0 and second number 1, and what follows the bit is not read.
+// The extension bit is no field's: a name starts behind it, and an extended one has the place where the reading stood.
 ghost use mathlib.Core.Path.{_≡_};
 ghost use Rattle.field_ranges.specs.Ranges.{Listed};
 ghost use Rattle.enumerations.specs.Readers.{Names, Reasons, Triples};
@@ -17,6 +18,7 @@ use ranged_numbers::ranged;
 pub struct Name {
     pub value: u64,
     pub second: u64,
+    pub at: usize,
 }
 
 pub struct NameAt {
@@ -36,6 +38,7 @@ fn read_name(s: &[u8], c: Cursor, range: Range) -> NameAt
         let name = Name {
             value: g.v,
             second: 0,
+            at: extension.c.at,
         };
         return NameAt { name: name, c: end };
     }
@@ -43,6 +46,7 @@ fn read_name(s: &[u8], c: Cursor, range: Range) -> NameAt
     let name = Name {
         value: 0,
         second: 1,
+        at: end.at,
     };
     NameAt { name: name, c: end }
 }
@@ -59,6 +63,7 @@ pub fn read_reason(s: &[u8], c: Cursor, range: Range) -> NameAt
         let name = Name {
             value: g.v,
             second: 0,
+            at: extension.c.at,
         };
         return NameAt { name: name, c: end };
     }
@@ -66,6 +71,7 @@ pub fn read_reason(s: &[u8], c: Cursor, range: Range) -> NameAt
     let name = Name {
         value: 0,
         second: 1,
+        at: end.at,
     };
     NameAt { name: name, c: end }
 }

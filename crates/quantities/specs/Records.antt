@@ -6,4 +6,4 @@ use Rattle.quantities.specs.declared.Quantity.{Quantity}
 
 -- tags of the kind and the number
 abbrev pub quantityRecs : ℕ → ℕ → Quantity → ℕ → List Rec
-quantityRecs t u v n = rec t n (v .kind) 0 ∷ rec u n (v .number) 0 ∷ []
+quantityRecs t u v n = rec t n (v .kind) 0 (v .«kind_at») ∷ rec u n (v .number) 0 (v .«number_at») ∷ []

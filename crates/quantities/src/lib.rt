@@ -14,7 +14,9 @@ use ranged_numbers::ranged;
 
 pub struct Quantity {
     pub kind: u64,
+    pub kind_at: usize,
     pub number: u64,
+    pub number_at: usize,
 }
 
 pub struct QuantityAt {
@@ -35,7 +37,9 @@ fn read_quantity(s: &[u8], c: Cursor, width: usize, first: usize, kinds: u64) ->
         let end = number.c;
         let quantity = Quantity {
             kind: k,
+            kind_at: c.at,
             number: number.v,
+            number_at: kind.c.at,
         };
         return QuantityAt {
             quantity: quantity,
@@ -43,7 +47,12 @@ fn read_quantity(s: &[u8], c: Cursor, width: usize, first: usize, kinds: u64) ->
         };
     }
     let end = stop(kind.c, 5, 1);
-    let quantity = Quantity { kind: k, number: 0 };
+    let quantity = Quantity {
+        kind: k,
+        kind_at: c.at,
+        number: 0,
+        number_at: 0,
+    };
     QuantityAt {
         quantity: quantity,
         c: end,

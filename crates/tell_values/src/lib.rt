@@ -22,15 +22,15 @@ pub fn tell_quantity(
     requires { ⌜ n < 2 ^ 31 ⌝ }
     ensures { λ m. ⌜ Told 2 (now (words .entry)) (now (words .exit)) n m (quantityRecs kind number x element) ⌝ }
 {
-    let m = emit(words, n, kind, element, x.kind, 0);
-    emit(words, m, number, element, x.number, 0)
+    let m = emit(words, n, kind, element, x.kind, 0, x.kind_at);
+    emit(words, m, number, element, x.number, 0, x.number_at)
 }
 
 pub fn tell_name(words: &mut [u64], n: usize, element: u64, tag: u64, x: Name) -> usize
     requires { ⌜ n < 2 ^ 31 ⌝ }
     ensures { λ m. ⌜ Told 1 (now (words .entry)) (now (words .exit)) n m (nameRecs tag x element) ⌝ }
 {
-    emit(words, n, tag, element, x.value, x.second)
+    emit(words, n, tag, element, x.value, x.second, x.at)
 }
 
 pub fn tell_triple(words: &mut [u64], n: usize, element: u64, x: Triple) -> usize
@@ -49,10 +49,10 @@ pub fn tell_code(words: &mut [u64], n: usize, element: u64, x: Code) -> usize
     requires { ⌜ n < 2 ^ 31 ⌝ }
     ensures { λ m. ⌜ Told 4 (now (words .entry)) (now (words .exit)) n m (codeRecs x element) ⌝ }
 {
-    let a = emit(words, n, 60, element, x.first, 0);
-    let b = emit(words, a, 60, element, x.second, 0);
-    let d = emit(words, b, 60, element, x.third, 0);
-    emit(words, d, 60, element, x.fourth, 0)
+    let a = emit(words, n, 60, element, x.first, 0, x.first_at);
+    let b = emit(words, a, 60, element, x.second, 0, x.second_at);
+    let d = emit(words, b, 60, element, x.third, 0, x.third_at);
+    emit(words, d, 60, element, x.fourth, 0, x.fourth_at)
 }
 
 pub fn tell_runway(
@@ -66,6 +66,6 @@ pub fn tell_runway(
     requires { ⌜ n < 2 ^ 31 ⌝ }
     ensures { λ m. ⌜ Told 2 (now (words .entry)) (now (words .exit)) n m (runwayRecs direction side x element) ⌝ }
 {
-    let m = emit(words, n, direction, element, x.direction, 0);
-    emit(words, m, side, element, x.side, 0)
+    let m = emit(words, n, direction, element, x.direction, 0, x.direction_at);
+    emit(words, m, side, element, x.side, 0, x.side_at)
 }

@@ -26,7 +26,7 @@ returns-3 : tie.Need-returns-3
 returns-3 c = form-two (c .before .before .before .before .before .before .before .bits .result) (c .before .before .before .before .before .before .before .bits .ensures) (c .before .before .before .before .if3 .taken) (c .before .before .before .ranged4 .result) (c .before .before .before .ranged4 .ensures) (c .before .before .ranged5 .result) (c .before .before .ranged5 .ensures) (c .before .ranged6 .result) (c .before .ranged6 .ensures)
 
 returns-4 : tie.Need-returns-4
-returns-4 c = form-none (c .before .before .before .before .bits .result) (c .before .before .before .before .bits .ensures) (c .before .before .before .if1 .left) (c .before .before .if2 .left) (c .before .if3 .left) (c .stop .ensures)
+returns-4 c = form-none (c .before .before .before .before .before .bits .result) (c .before .before .before .before .before .bits .ensures) (c .before .before .before .before .if1 .left) (c .before .before .before .if2 .left) (c .before .before .if3 .left) (c .before .stop .ensures)
 
 pub read-form-spec : {M : Type 1} → statement M
-read-form-spec = tie.close (tie.spec (λ c κs. search needs) ranged-requires returns ranged-requires-2 (λ c κs. search needs) returns-2 ranged-requires-4 (λ c κs. search needs) (λ c κs. search needs) returns-3 (λ c κs. search needs) returns-4)
+read-form-spec = tie.close (tie.spec (λ c κs. search needs) ranged-requires returns ranged-requires-2 (λ c κs. search needs) returns-2 ranged-requires-4 (λ c κs. search needs) (λ c κs. search needs) returns-3 (λ c κs. search needs) (λ c κs. search needs) returns-4)
