@@ -25,7 +25,7 @@ abbrev behind : Alts
 behind = message.numericString 59 73 12 12 ∥ none-left
 
 -- a number below 3, a channel from 3 on
-pub number-recs : (k : ℕ) (s : List ℕ) (v : Frequency) (n : ℕ) → k < 3 → numberOrChannel k s v n ≡ rec 58 n (v .number) 0 ∷ []
+pub number-recs : (k : ℕ) (s : List ℕ) (v : Frequency) (n : ℕ) → k < 3 → numberOrChannel k s v n ≡ rec 58 n (v .number) 0 (v .«number_at») ∷ []
 number-recs zero s v n h = refl
 number-recs (suc zero) s v n h = refl
 number-recs (suc (suc zero)) s v n h = refl
@@ -39,16 +39,16 @@ channel-recs (suc (suc (suc k))) s v n h = refl
 
 module _ {s : List ℕ} {c : Cursor} (g : Got) (p : Pulls s c 2 g) where
   pub frequency-number : (r : Got) → g .v < 3 → Ranged (25 + g .v) s (g .c) r
-      → Frequencies s c (record { frequency = record { kind = g .v; number = r .v; channel = record { at = 0; len = 0 } }; c = r .c })
+      → Frequencies s c (record { frequency = record { kind = g .v; «kind_at» = c .at; number = r .v; «number_at» = g .c .at; channel = record { from = 0; at = 0; len = 0 } }; c = r .c })
   unfolding frequencyRecs lowest highest width widthIn encoding.highest count
   frequency-number r l h =
-      let y : Takes message.frequency s c (r .c) (λ n. rec 57 n (g .v) 0 ∷ rec 58 n (r .v) 0 ∷ []) = takes-row 57 58 25 3 behind g p r l h in
+      let y : Takes message.frequency s c (r .c) (λ n. rec 57 n (g .v) 0 (c .at) ∷ rec 58 n (r .v) 0 (g .c .at) ∷ []) = takes-row 57 58 25 3 behind g p r l h in
       record {
         reads = record { took = λ x. rw (number-recs (g .v) s _ (x .0) l) (y .took x) };
         held = record { few = omega arith; there = record { there = omega arith; fits = omega arith } };
       }
 
-  pub frequency-channel : (r : TextAt) → 3 ≤ g .v → Channel s (g .c) r → Frequencies s c (record { frequency = record { kind = 3; number = 0; channel = r .text }; c = r .c })
+  pub frequency-channel : (r : TextAt) → 3 ≤ g .v → Channel s (g .c) r → Frequencies s c (record { frequency = record { kind = 3; «kind_at» = c .at; number = 0; «number_at» = 0; channel = r .text }; c = r .c })
   unfolding readChoice frequencyRecs lowest highest width widthIn encoding.highest count
   frequency-channel r l h =
       record {

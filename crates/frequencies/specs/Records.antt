@@ -10,12 +10,12 @@ use Rattle.frequencies.specs.declared.Frequency.{Frequency}
 -- behind the kind: a number, or the digits of a channel
 abbrev pub numberOrChannel : ℕ → List ℕ → Frequency → ℕ → List Rec
 numberOrChannel (suc (suc (suc k))) s v n = channelRecs tag.satellite-channel tag.satellite-channel-x691 n s (v .channel)
-numberOrChannel (suc (suc zero)) s v n = rec tag.frequency-number n (v .number) 0 ∷ []
-numberOrChannel (suc zero) s v n = rec tag.frequency-number n (v .number) 0 ∷ []
-numberOrChannel zero s v n = rec tag.frequency-number n (v .number) 0 ∷ []
+numberOrChannel (suc (suc zero)) s v n = rec tag.frequency-number n (v .number) 0 (v .«number_at») ∷ []
+numberOrChannel (suc zero) s v n = rec tag.frequency-number n (v .number) 0 (v .«number_at») ∷ []
+numberOrChannel zero s v n = rec tag.frequency-number n (v .number) 0 (v .«number_at») ∷ []
 
 unfoldable pub frequencyRecs : List ℕ → Frequency → ℕ → List Rec
-frequencyRecs s v n = rec tag.frequency n (v .kind) 0 ∷ numberOrChannel (v .kind) s v n
+frequencyRecs s v n = rec tag.frequency n (v .kind) 0 (v .«kind_at») ∷ numberOrChannel (v .kind) s v n
 
 -- a channel that can be told: its digits are in the frame, and few
 pub record HeldChannel (s : List ℕ) (x : Text) : Type 0 where

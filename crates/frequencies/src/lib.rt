@@ -11,7 +11,9 @@ use ranged_numbers::ranged;
 // kind 3 has a channel and no number, every other a number and no channel
 pub struct Frequency {
     pub kind: u64,
+    pub kind_at: usize,
     pub number: u64,
+    pub number_at: usize,
     pub channel: Text,
 }
 
@@ -29,10 +31,16 @@ pub fn read_frequency(s: &[u8], c: Cursor) -> FrequencyAt
         let range = range_at(FREQUENCY_0.row + kind as usize);
         let number = ranged(s, index.c, range);
         let end = number.c;
-        let none = Text { at: 0, len: 0 };
+        let none = Text {
+            from: 0,
+            at: 0,
+            len: 0,
+        };
         let frequency = Frequency {
             kind: kind,
+            kind_at: c.at,
             number: number.v,
+            number_at: index.c.at,
             channel: none,
         };
         return FrequencyAt {
@@ -45,7 +53,9 @@ pub fn read_frequency(s: &[u8], c: Cursor) -> FrequencyAt
     let end = satellite.c;
     let frequency = Frequency {
         kind: 3,
+        kind_at: c.at,
         number: 0,
+        number_at: 0,
         channel: digits,
     };
     FrequencyAt {

@@ -25,7 +25,7 @@ use Rattle.named_places.specs.Names.{Held}
 pub held-text : {k : ℕ} {s : List ℕ} {c : Cursor} {r : TextAt} → Texts k s c r → Held s (r .text)
 held-text h = record { few = h .few; there = h .held }
 
-pub held-none : {s : List ℕ} → Held s (record { at = 0; len = 0 })
+pub held-none : {s : List ℕ} → Held s (record { from = 0; at = 0; len = 0 })
 held-none = record { few = omega arith; there = record { there = omega arith; fits = omega arith } }
 
 ---------------------------------------------------------------- one presence bit, and what it is of last
@@ -47,10 +47,10 @@ module _ {s : List ℕ} {c d e : Cursor} {f : Fmt} {T : ℕ → List Rec} (g : G
 ---------------------------------------------------------------- a choice of two
 
 module _ (t : ℕ) (f h : Fmt) {s : List ℕ} {c d : Cursor} {T : ℕ → List Rec} (g : Got) (p : Pulls s c 1 g) where
-  pub takes-first : g .v ≡ 0 → Takes f s (g .c) d T → Takes (choice t (f ∥ h ∥ none-left)) s c d (λ n. rec t n 0 0 ∷ T n)
+  pub takes-first : g .v ≡ 0 → Takes f s (g .c) d T → Takes (choice t (f ∥ h ∥ none-left)) s c d (λ n. rec t n 0 0 (c .at) ∷ T n)
   unfolding readChoice width widthIn encoding.highest count
   takes-first z x = takes-index t (f ∥ h ∥ none-left) 0 f g p z (λ _ u q. refl) x
 
-  pub takes-second : (g .v ≡ 0 → ⊥) → Takes h s (g .c) d T → Takes (choice t (f ∥ h ∥ none-left)) s c d (λ n. rec t n 1 0 ∷ T n)
+  pub takes-second : (g .v ≡ 0 → ⊥) → Takes h s (g .c) d T → Takes (choice t (f ∥ h ∥ none-left)) s c d (λ n. rec t n 1 0 (c .at) ∷ T n)
   unfolding readChoice width widthIn encoding.highest count
   takes-second z x = takes-index t (f ∥ h ∥ none-left) 1 h (record { v = 1; c = g .c }) (pulls-last 1 1 g refl p (omega arith)) refl (λ _ u q. refl) x

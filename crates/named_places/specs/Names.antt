@@ -33,11 +33,11 @@ publishedTag zero = tag.published-fix
 publishedTag (suc k) = tag.published-navaid
 
 unfoldable pub publishedRecs : List ℕ → Published → ℕ → List Rec
-publishedRecs s v n = rec tag.published n (v .kind) 0 ∷ namedRecs (publishedTag (v .kind)) s (v .named) n
+publishedRecs s v n = rec tag.published n (v .kind) 0 (v .at) ∷ namedRecs (publishedTag (v .kind)) s (v .named) n
 
 -- tags of the kind, the name and the transition
 unfoldable pub procedureRecs : ℕ → ℕ → ℕ → List ℕ → Procedure → ℕ → List Rec
-procedureRecs t u w s v n = rec t n (v .kind) 0 ∷ (textRecs u n s (v .name) ++ unlessAbsent (v .has) (textRecs w n s (v .transition)))
+procedureRecs t u w s v n = rec t n (v .kind) 0 (v .at) ∷ (textRecs u n s (v .name) ++ unlessAbsent (v .has) (textRecs w n s (v .transition)))
 
 ---------------------------------------------------------------- readers
 

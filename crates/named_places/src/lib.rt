@@ -28,6 +28,7 @@ pub struct NamedAt {
 // kind 0: a fix; 1: a navaid
 pub struct Published {
     pub kind: u64,
+    pub at: usize,
     pub named: Named,
 }
 
@@ -39,6 +40,7 @@ pub struct PublishedAt {
 // has: 0 where the transition is absent
 pub struct Procedure {
     pub kind: u64,
+    pub at: usize,
     pub name: Text,
     pub has: u64,
     pub transition: Text,
@@ -80,6 +82,7 @@ pub fn read_published(s: &[u8], c: Cursor) -> PublishedAt
         let end = fix.c;
         let published = Published {
             kind: 0,
+            at: c.at,
             named: named,
         };
         return PublishedAt {
@@ -92,6 +95,7 @@ pub fn read_published(s: &[u8], c: Cursor) -> PublishedAt
     let end = navaid.c;
     let published = Published {
         kind: 1,
+        at: c.at,
         named: named,
     };
     PublishedAt {
@@ -110,9 +114,14 @@ pub fn read_procedure(s: &[u8], c: Cursor) -> ProcedureAt
     let text = name.text;
     if flags.v % 2 == 0 {
         let end = name.c;
-        let none = Text { at: 0, len: 0 };
+        let none = Text {
+            from: 0,
+            at: 0,
+            len: 0,
+        };
         let procedure = Procedure {
             kind: kind.v,
+            at: flags.c.at,
             name: text,
             has: 0,
             transition: none,
@@ -127,6 +136,7 @@ pub fn read_procedure(s: &[u8], c: Cursor) -> ProcedureAt
     let end = transition.c;
     let procedure = Procedure {
         kind: kind.v,
+        at: flags.c.at,
         name: text,
         has: 1,
         transition: some,

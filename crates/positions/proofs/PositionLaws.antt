@@ -27,19 +27,19 @@ abbrev alts : Alts
 alts = message.named 31 5 ∥ message.named 32 4 ∥ message.ia5 33 4 4 ∥ message.latlon ∥ message.unlisted ∥ none-left
 
 module _ {s : List ℕ} {c : Cursor} (g : Got) (p : Pulls s c 3 g) where
-  pub position-fix : g .v ≡ 0 → (r : NamedAt) → NamedPlaces 45 s (g .c) r → Positions s c (record { position = Fix (r .named); c = r .c })
+  pub position-fix : g .v ≡ 0 → (r : NamedAt) → NamedPlaces 45 s (g .c) r → Positions s c (record { position = Fix (c .at) (r .named); c = r .c })
   unfolding readChoice width widthIn encoding.highest count lowest highest
   position-fix z r h = record { reads = takes-index 30 alts 0 _ g p z (λ x u q. refl) (h .reads 31); held = h .held }
 
-  pub position-navaid : g .v ≡ 1 → (r : NamedAt) → NamedPlaces 46 s (g .c) r → Positions s c (record { position = Navaid (r .named); c = r .c })
+  pub position-navaid : g .v ≡ 1 → (r : NamedAt) → NamedPlaces 46 s (g .c) r → Positions s c (record { position = Navaid (c .at) (r .named); c = r .c })
   unfolding readChoice width widthIn encoding.highest count lowest highest
   position-navaid z r h = record { reads = takes-index 30 alts 1 _ g p z (λ x u q. refl) (h .reads 32); held = h .held }
 
-  pub position-airport : g .v ≡ 2 → (r : TextAt) → Texts 47 s (g .c) r → Positions s c (record { position = Airport (r .text); c = r .c })
+  pub position-airport : g .v ≡ 2 → (r : TextAt) → Texts 47 s (g .c) r → Positions s c (record { position = Airport (c .at) (r .text); c = r .c })
   unfolding readChoice width widthIn encoding.highest count lowest highest
   position-airport z r h = record { reads = takes-index 30 alts 2 _ g p z (λ x u q. refl) (h .text 33); held = held-text h }
 
-  pub position-coordinates : g .v ≡ 3 → (r : PairAt) → Pairs s (g .c) r → Positions s c (record { position = Coordinates (r .pair); c = r .c })
+  pub position-coordinates : g .v ≡ 3 → (r : PairAt) → Pairs s (g .c) r → Positions s c (record { position = Coordinates (c .at) (r .pair); c = r .c })
   unfolding readChoice width widthIn encoding.highest count
   position-coordinates z r h = record { reads = takes-index 30 alts 3 _ g p z (λ x u q. refl) (h .reads); held = tt }
 

@@ -18,7 +18,7 @@ use Rattle.cursor.specs.declared.place.Cursor.{Cursor}
 use Rattle.cursor.specs.declared.place.Got.{Got}
 use Rattle.cursor.specs.Place.{number, put, stopped, marked, Inside, Pulled, stuck, short, got, Pulls, Led, stayed, went, failed, Reads, Takes}
 use Rattle.cursor.specs.Formats.{Fields}
-use Rattle.cursor.proofs.Laws.{led-stays, led-from, reads-then, reads-ok, marked-nil}
+use Rattle.cursor.proofs.Laws.{led-stays, led-from, reads-then, reads-ok, reads-here, marked-nil}
 use Rattle.cursor.proofs.FormatLaws.{reads-going, fields-must, takes-back}
 use Rattle.frequencies.proofs.Indices.{pulls-last}
 use Rattle.positions.specs.Positions.{Flagged, shutAlready, ranShort, flagged, Flags, noteRecs}
@@ -71,7 +71,7 @@ marked-again m c h = go (c .why) refl
 ---------------------------------------------------------------- the parts' records
 
 abbrev note : ℕ → ℕ → ℕ → ℕ → Ans
-note t n v p = fork v (ok p [] 0) (ok p (rec t n 1 0 ∷ []) (mark 4))
+note t n v p = fork v (ok p [] 0) (ok p (rec t n 1 0 p ∷ []) (mark 4))
 
 notes-same : (t u v w : ℕ) (x : Ctx) (b : ℕ → ℕ) (e q p : ℕ) → v ≡ b q → w ≡ b (suc q) → then (note t (x .0) v p) (λ r. note u (x .0) w r) ≡ readFields (unread t (unread u end)) x b e q p
 unfolding readFields fork then glue or mark
@@ -81,12 +81,12 @@ notes-same t u (suc v) zero x b e q p y z = rw (← y, ← z)
 notes-same t u (suc v) (suc w) x b e q p y z = rw (← y, ← z)
 
 module _ {s : List ℕ} {c : Cursor} where
-  reads-note : (t n v : ℕ) → Has (unreadMark v) c → Reads (λ u p. note t n v p) s c c (noteRecs t v n)
+  reads-note : (t n v : ℕ) → Has (unreadMark v) c → Reads (λ u p. note t n v p) s c c (noteRecs t v (c .at) n)
   unfolding fork unreadMark
   reads-note t n zero h = reads-ok [] 0 (marked-nil c)
-  reads-note t n (suc v) h = reads-ok (rec t n 1 0 ∷ []) (mark 4) (marked-again (mark 4) c h)
+  reads-note t n (suc v) h = reads-here (λ p. rec t n 1 0 p ∷ []) (mark 4) (marked-again (mark 4) c h)
 
-  fields-notes : (t u v w q : ℕ) → Has (unreadMark v) c → Has (unreadMark w) c → (c .why ≡ 0 → v ≡ bitOf s q) → (c .why ≡ 0 → w ≡ bitOf s (suc q)) → Fields (unread t (unread u end)) s c c q (λ n. noteRecs t v n ++ noteRecs u w n)
+  fields-notes : (t u v w q : ℕ) → Has (unreadMark v) c → Has (unreadMark w) c → (c .why ≡ 0 → v ≡ bitOf s q) → (c .why ≡ 0 → w ≡ bitOf s (suc q)) → Fields (unread t (unread u end)) s c c q (λ n. noteRecs t v (c .at) n ++ noteRecs u w (c .at) n)
   fields-notes t u v w q h i y z =
       record {
         took = λ x.
@@ -206,7 +206,7 @@ module _ {s : List ℕ} {c : Cursor} {a b : Got} where
 
 module _ {f h : Fmt} (t u : ℕ) {s : List ℕ} {c d e : Cursor} {a b : Got} {T U : ℕ → List Rec} where
   pub takes-unread : Flags s c a → Flags s (a .c) b → Takes f s (b .c) d T → Takes h s d e U
-      → Takes (seq (f ⨾ h ⨾ unread t (unread u end))) s c e (λ n. T n ++ (U n ++ (noteRecs t (a .v) n ++ noteRecs u (b .v) n)))
+      → Takes (seq (f ⨾ h ⨾ unread t (unread u end))) s c e (λ n. T n ++ (U n ++ (noteRecs t (a .v) (e .at) n ++ noteRecs u (b .v) (e .at) n)))
   unfolding flags unreadMarks
   takes-unread p r x y =
       takes-flagged refl (λ _ q. refl) p r λ i z.

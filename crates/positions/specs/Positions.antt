@@ -22,27 +22,27 @@ use Rattle.named_places.specs.Names.{Held, namedRecs}
 ---------------------------------------------------------------- records
 
 abbrev pub positionRecs : List ℕ → Position → ℕ → List Rec
-positionRecs s (Fix v) n = rec tag.position n 0 0 ∷ namedRecs tag.fix s v n
-positionRecs s (Navaid v) n = rec tag.position n 1 0 ∷ namedRecs tag.navaid s v n
-positionRecs s (Airport x) n = rec tag.position n 2 0 ∷ textRecs tag.airport n s x
-positionRecs s (Coordinates v) n = rec tag.position n 3 0 ∷ pairRecs v n
+positionRecs s (Fix at v) n = rec tag.position n 0 0 at ∷ namedRecs tag.fix s v n
+positionRecs s (Navaid at v) n = rec tag.position n 1 0 at ∷ namedRecs tag.navaid s v n
+positionRecs s (Airport at x) n = rec tag.position n 2 0 at ∷ textRecs tag.airport n s x
+positionRecs s (Coordinates at v) n = rec tag.position n 3 0 at ∷ pairRecs v n
 positionRecs s Unread n = []
 
--- a part that is there, and not read
-abbrev pub noteRecs : ℕ → ℕ → ℕ → List Rec
-noteRecs t has n = unlessAbsent has (rec t n 1 0 ∷ [])
+-- a part that is there, and not read: where the reading stood
+abbrev pub noteRecs : ℕ → ℕ → ℕ → ℕ → List Rec
+noteRecs t has at n = unlessAbsent has (rec t n 1 0 at ∷ [])
 
 unfoldable pub departureRecs : List ℕ → Departure → ℕ → List Rec
 departureRecs s v n =
     textRecs tag.flight-identification n s (v .flight)
-    ++ (positionRecs s (v .position) n ++ (noteRecs tag.flight-information (v .information) n ++ noteRecs tag.further-instructions (v .instructions) n))
+    ++ (positionRecs s (v .position) n ++ (noteRecs tag.flight-information (v .information) (v .«notes_at») n ++ noteRecs tag.further-instructions (v .instructions) (v .«notes_at») n))
 
 -- the position can be told: so can the text in it
 abbrev pub HeldPosition : List ℕ → Position → Type 0
-HeldPosition s (Fix v) = Held s (v .name)
-HeldPosition s (Navaid v) = Held s (v .name)
-HeldPosition s (Airport x) = Held s x
-HeldPosition s (Coordinates v) = Unit {0}
+HeldPosition s (Fix at v) = Held s (v .name)
+HeldPosition s (Navaid at v) = Held s (v .name)
+HeldPosition s (Airport at x) = Held s x
+HeldPosition s (Coordinates at v) = Unit {0}
 HeldPosition s Unread = Unit {0}
 
 ---------------------------------------------------------------- readers

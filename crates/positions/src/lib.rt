@@ -16,11 +16,12 @@ use field_ranges::table::NAVAID_SIZE;
 use named_places::Named;
 use named_places::read_named;
 
+// each with the place of its index
 pub enum Position {
-    Fix(Named),
-    Navaid(Named),
-    Airport(Text),
-    Coordinates(Pair),
+    Fix(usize, Named),
+    Navaid(usize, Named),
+    Airport(usize, Text),
+    Coordinates(usize, Pair),
     Unread,
 }
 
@@ -29,12 +30,13 @@ pub struct PositionAt {
     pub c: Cursor,
 }
 
-// information, instructions: 0 where the part is absent
+// information, instructions: 0 where the part is absent; notes_at: where the reading stood, behind the position
 pub struct Departure {
     pub flight: Text,
     pub position: Position,
     pub information: u64,
     pub instructions: u64,
+    pub notes_at: usize,
 }
 
 pub struct DepartureAt {
@@ -45,13 +47,14 @@ pub struct DepartureAt {
 pub fn read_position(s: &[u8], c: Cursor) -> PositionAt
     ensures { λ r. ⌜ Positions (now (s .entry)) c r ⌝ }
 {
+    let at = c.at;
     let index = bits(s, c, 3);
     let kind = index.v;
     if kind == 0 {
         let fix = read_named(s, index.c, FIX_SIZE);
         let named = fix.named;
         let end = fix.c;
-        let position = Position::Fix(named);
+        let position = Position::Fix(at, named);
         return PositionAt {
             position: position,
             c: end,
@@ -61,7 +64,7 @@ pub fn read_position(s: &[u8], c: Cursor) -> PositionAt
         let navaid = read_named(s, index.c, NAVAID_SIZE);
         let named = navaid.named;
         let end = navaid.c;
-        let position = Position::Navaid(named);
+        let position = Position::Navaid(at, named);
         return PositionAt {
             position: position,
             c: end,
@@ -71,7 +74,7 @@ pub fn read_position(s: &[u8], c: Cursor) -> PositionAt
         let airport = ia5(s, index.c, AIRPORT_SIZE);
         let text = airport.text;
         let end = airport.c;
-        let position = Position::Airport(text);
+        let position = Position::Airport(at, text);
         return PositionAt {
             position: position,
             c: end,
@@ -81,7 +84,7 @@ pub fn read_position(s: &[u8], c: Cursor) -> PositionAt
         let coordinates = read_latlon(s, index.c);
         let pair = coordinates.pair;
         let end = coordinates.c;
-        let position = Position::Coordinates(pair);
+        let position = Position::Coordinates(at, pair);
         return PositionAt {
             position: position,
             c: end,
@@ -123,6 +126,7 @@ pub fn read_departure_clearance(s: &[u8], c: Cursor) -> DepartureAt
         position: position,
         information: information.v,
         instructions: instructions.v,
+        notes_at: place.c.at,
     };
     DepartureAt {
         departure: departure,

@@ -14,17 +14,17 @@ fn tell_form(words: &mut [u64], n: usize, element: u64, tag: u64, x: Form) -> us
     requires { ⌜ (n < 2 ^ 31) × (tag < 256) ⌝ }
     ensures { λ m. ⌜ Told 4 (now (words .entry)) (now (words .exit)) n m (formRecs tag x element) ⌝ }
 {
-    let m = emit(words, n, tag, element, x.form, 0);
+    let m = emit(words, n, tag, element, x.form, 0, x.form_at);
     if x.form == 0 {
-        return emit(words, m, tag + 1, element, x.first, 0);
+        return emit(words, m, tag + 1, element, x.first, 0, x.first_at);
     }
     if x.form == 1 {
-        let a = emit(words, m, tag + 2, element, x.first, 0);
-        return emit(words, a, tag + 3, element, x.second, 0);
+        let a = emit(words, m, tag + 2, element, x.first, 0, x.first_at);
+        return emit(words, a, tag + 3, element, x.second, 0, x.second_at);
     }
-    let a = emit(words, m, tag + 2, element, x.first, 0);
-    let b = emit(words, a, tag + 4, element, x.second, 0);
-    emit(words, b, tag + 5, element, x.third, 0)
+    let a = emit(words, m, tag + 2, element, x.first, 0, x.first_at);
+    let b = emit(words, a, tag + 4, element, x.second, 0, x.second_at);
+    emit(words, b, tag + 5, element, x.third, 0, x.third_at)
 }
 
 fn tell_angle(words: &mut [u64], n: usize, element: u64, tag: u64, x: Angle) -> usize
@@ -33,7 +33,7 @@ fn tell_angle(words: &mut [u64], n: usize, element: u64, tag: u64, x: Angle) -> 
 {
     let form = x.form;
     let m = tell_form(words, n, element, tag, form);
-    emit(words, m, tag + 6, element, x.side, 0)
+    emit(words, m, tag + 6, element, x.side, 0, x.side_at)
 }
 
 fn tell_maybe_angle(words: &mut [u64], n: usize, element: u64, tag: u64, x: MaybeAngle) -> usize
@@ -53,7 +53,7 @@ pub fn tell_pair(words: &mut [u64], n: usize, element: u64, x: Pair) -> usize
 {
     let latitude = x.latitude;
     let longitude = x.longitude;
-    let a = emit(words, n, 34, element, 0, 0);
+    let a = emit(words, n, 34, element, 0, 0, x.at);
     let b = tell_maybe_angle(words, a, element, 35, latitude);
     tell_maybe_angle(words, b, element, 42, longitude)
 }

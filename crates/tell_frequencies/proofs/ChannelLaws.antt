@@ -13,10 +13,10 @@ use Rattle.frequencies.proofs.FrequencyLaws.{number-recs, channel-recs}
 ---------------------------------------------------------------- the records of a frequency
 
 module _ (s : List ℕ) (v : Frequency) (e : ℕ) {w w′ : List ℕ} {n m : ℕ} where
-  pub told-number : v .kind < 3 → Told 2 w w′ n m (rec 57 e (v .kind) 0 ∷ rec 58 e (v .number) 0 ∷ []) → Told 5 w w′ n m (frequencyRecs s v e)
+  pub told-number : v .kind < 3 → Told 2 w w′ n m (rec 57 e (v .kind) 0 (v .«kind_at») ∷ rec 58 e (v .number) 0 (v .«number_at») ∷ []) → Told 5 w w′ n m (frequencyRecs s v e)
   unfolding frequencyRecs
   told-number h p = told-within {j = 2} 5 (omega arith) (rw (number-recs (v .kind) s v e h) p)
 
-  pub told-channel : 3 ≤ v .kind → Told 5 w w′ n m (rec 57 e (v .kind) 0 ∷ channelRecs 59 73 e s (v .channel)) → Told 5 w w′ n m (frequencyRecs s v e)
+  pub told-channel : 3 ≤ v .kind → Told 5 w w′ n m (rec 57 e (v .kind) 0 (v .«kind_at») ∷ channelRecs 59 73 e s (v .channel)) → Told 5 w w′ n m (frequencyRecs s v e)
   unfolding frequencyRecs
   told-channel h p = rw (channel-recs (v .kind) s v e h) p

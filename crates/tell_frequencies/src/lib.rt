@@ -11,9 +11,9 @@ pub fn tell_frequency(words: &mut [u64], n: usize, element: u64, s: &[u8], x: Fr
     ensures { λ m. ⌜ Told 5 (now (words .entry)) (now (words .exit)) n m (frequencyRecs (now (s .entry)) x element) ⌝ }
 {
     let channel = x.channel;
-    let m = emit(words, n, 57, element, x.kind, 0);
+    let m = emit(words, n, 57, element, x.kind, 0, x.kind_at);
     if x.kind < 3 {
-        return emit(words, m, 58, element, x.number, 0);
+        return emit(words, m, 58, element, x.number, 0, x.number_at);
     }
     tell_channel(words, m, 59, 73, element, s, channel)
 }

@@ -17,10 +17,10 @@ navaid-tag zero h = absurd (h refl)
 navaid-tag (suc k) h = refl
 
 module _ (s : List ℕ) (v : Published) (e : ℕ) {w w′ : List ℕ} {n m : ℕ} where
-  pub told-fix : v .kind ≡ 0 → Told 76 w w′ n m (rec 98 e (v .kind) 0 ∷ namedRecs 99 s (v .named) e) → Told 76 w w′ n m (publishedRecs s v e)
+  pub told-fix : v .kind ≡ 0 → Told 76 w w′ n m (rec 98 e (v .kind) 0 (v .at) ∷ namedRecs 99 s (v .named) e) → Told 76 w w′ n m (publishedRecs s v e)
   unfolding publishedRecs
   told-fix h p = rw (fix-tag (v .kind) h) p
 
-  pub told-navaid : (v .kind ≡ 0 → ⊥) → Told 76 w w′ n m (rec 98 e (v .kind) 0 ∷ namedRecs 100 s (v .named) e) → Told 76 w w′ n m (publishedRecs s v e)
+  pub told-navaid : (v .kind ≡ 0 → ⊥) → Told 76 w w′ n m (rec 98 e (v .kind) 0 (v .at) ∷ namedRecs 100 s (v .named) e) → Told 76 w w′ n m (publishedRecs s v e)
   unfolding publishedRecs
   told-navaid h p = rw (navaid-tag (v .kind) h) p

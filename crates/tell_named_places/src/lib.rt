@@ -27,7 +27,7 @@ pub fn tell_published(words: &mut [u64], n: usize, element: u64, s: &[u8], x: Pu
     ensures { λ m. ⌜ Told 76 (now (words .entry)) (now (words .exit)) n m (publishedRecs (now (s .entry)) x element) ⌝ }
 {
     let named = x.named;
-    let m = emit(words, n, 98, element, x.kind, 0);
+    let m = emit(words, n, 98, element, x.kind, 0, x.at);
     if x.kind == 0 {
         return tell_named(words, m, element, 99, s, named);
     }
@@ -68,7 +68,7 @@ pub fn tell_procedure(
 {
     let first = x.name;
     let second = x.transition;
-    let a = emit(words, n, kind, element, x.kind, 0);
+    let a = emit(words, n, kind, element, x.kind, 0, x.at);
     let b = tell_text(words, a, name, element, s, first);
     tell_maybe_text(words, b, element, transition, s, x.has, second)
 }

@@ -15,20 +15,20 @@ pub fn tell_position(words: &mut [u64], n: usize, element: u64, s: &[u8], x: Pos
     ensures { λ m. ⌜ Told 76 (now (words .entry)) (now (words .exit)) n m (positionRecs (now (s .entry)) x element) ⌝ }
 {
     match x {
-        Position::Fix(named) => {
-            let m = emit(words, n, 30, element, 0, 0);
+        Position::Fix(at, named) => {
+            let m = emit(words, n, 30, element, 0, 0, at);
             tell_named(words, m, element, 31, s, named)
         }
-        Position::Navaid(named) => {
-            let m = emit(words, n, 30, element, 1, 0);
+        Position::Navaid(at, named) => {
+            let m = emit(words, n, 30, element, 1, 0, at);
             tell_named(words, m, element, 32, s, named)
         }
-        Position::Airport(text) => {
-            let m = emit(words, n, 30, element, 2, 0);
+        Position::Airport(at, text) => {
+            let m = emit(words, n, 30, element, 2, 0, at);
             tell_text(words, m, 33, element, s, text)
         }
-        Position::Coordinates(pair) => {
-            let m = emit(words, n, 30, element, 3, 0);
+        Position::Coordinates(at, pair) => {
+            let m = emit(words, n, 30, element, 3, 0, at);
             tell_pair(words, m, element, pair)
         }
         Position::Unread => n,
@@ -36,14 +36,21 @@ pub fn tell_position(words: &mut [u64], n: usize, element: u64, s: &[u8], x: Pos
 }
 
 // A part that is there and not read.
-fn tell_note(words: &mut [u64], n: usize, element: u64, tag: u64, has: u64) -> usize
+fn tell_note(
+    words: &mut [u64],
+    n: usize,
+    element: u64,
+    tag: u64,
+    has: u64,
+    at: usize,
+) -> usize
     requires { ⌜ n < 2 ^ 31 ⌝ }
-    ensures { λ m. ⌜ Told 1 (now (words .entry)) (now (words .exit)) n m (noteRecs tag has element) ⌝ }
+    ensures { λ m. ⌜ Told 1 (now (words .entry)) (now (words .exit)) n m (noteRecs tag has at element) ⌝ }
 {
     if has == 0 {
         return n;
     }
-    emit(words, n, tag, element, 1, 0)
+    emit(words, n, tag, element, 1, 0, at)
 }
 
 pub fn tell_departure(words: &mut [u64], n: usize, element: u64, s: &[u8], x: Departure) -> usize
@@ -54,6 +61,6 @@ pub fn tell_departure(words: &mut [u64], n: usize, element: u64, s: &[u8], x: De
     let position = x.position;
     let a = tell_text(words, n, 70, element, s, flight);
     let b = tell_position(words, a, element, s, position);
-    let d = tell_note(words, b, element, 71, x.information);
-    tell_note(words, d, element, 72, x.instructions)
+    let d = tell_note(words, b, element, 71, x.information, x.notes_at);
+    tell_note(words, d, element, 72, x.instructions, x.notes_at)
 }
