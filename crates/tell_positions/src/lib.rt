@@ -36,14 +36,7 @@ pub fn tell_position(words: &mut [u64], n: usize, element: u64, s: &[u8], x: Pos
 }
 
 // A part that is there and not read.
-fn tell_note(
-    words: &mut [u64],
-    n: usize,
-    element: u64,
-    tag: u64,
-    has: u64,
-    at: usize,
-) -> usize
+fn tell_note(words: &mut [u64], n: usize, element: u64, tag: u64, has: u64, at: usize) -> usize
     requires { ⌜ n < 2 ^ 31 ⌝ }
     ensures { λ m. ⌜ Told 1 (now (words .entry)) (now (words .exit)) n m (noteRecs tag has at element) ⌝ }
 {
