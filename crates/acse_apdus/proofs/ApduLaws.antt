@@ -20,12 +20,13 @@ use Rattle.cursor.specs.declared.place.Cursor.{Cursor}
 use Rattle.cursor.specs.declared.place.Got.{Got}
 use Rattle.cursor.specs.Place as place
 use Rattle.cursor.specs.Place.{Inside, Pulls}
+use Rattle.cursor.proofs.Laws.{Behind}
 use Rattle.acse_bodies.specs.declared.Body.{Body}
 use Rattle.acse_apdus.specs.declared.Apdu.the-variants.{RanOut, Badly}
 use Rattle.acse_reasons.specs.SoFar.{soFar}
 use Rattle.acse_bodies.specs.Bodies.{bodies, bodyRecs, Chosen, unreadBody}
 use Rattle.acse_apdus.specs.Apdus.{heardOf, replyOf, Hears}
-use Rattle.acse_reasons.proofs.GrowLaws.{by-why, so-far-on, so-far-off, glue-glue, pulled-step, pulled-inside}
+use Rattle.acse_reasons.proofs.GrowLaws.{by-why, so-far-on, so-far-off, so-far-same, glue-glue, pulled-step, pulled-inside}
 
 ---------------------------------------------------------------- what becomes of a body
 
@@ -69,8 +70,9 @@ no-pdu (suc (suc (suc (suc (suc i))))) b e p h = refl
 abbrev start : List ℕ → Cursor
 start s = record { at = 0; end = length s * 8; why = 0; marks = 0 }
 
-abbrev Index : List ℕ → ℕ → ℕ → ℕ → Ans
-Index s i u q = then (ok q (rec tag.acse-pdu 0 i 0 ∷ []) 0) λ r. readChoice pdus i (0, 0) (bitOf s) u r
+-- behind the index, which starts at the place o
+abbrev Index : List ℕ → ℕ → ℕ → ℕ → ℕ → Ans
+Index s o i u q = then (ok q (rec tag.acse-pdu 0 i 0 o ∷ []) 0) λ r. readChoice pdus i (0, 0) (bitOf s) u r
 
 abbrev Header : List ℕ → ℕ → ℕ → ℕ → Ans
 Header s v u q = fork v (read (choice tag.acse-pdu pdus) (0, 0) (bitOf s) u q) (then (ok q [] (mark 2)) λ r. read (extended tag.acse-pdu) (0, 0) (bitOf s) u r)
@@ -84,18 +86,18 @@ going : (c : Cursor) (k : ℕ → Ans) → c .why ≡ 0 → then (soFar c []) k 
 unfolding then
 going c k z = rw (so-far-on c [] z)
 
-extension-reply : (s : List ℕ) (v u q m : ℕ) → (v ≡ 0 → ⊥) → reply (glue [] m (Header s v u q)) ≡ accept false q (or m 2) (rec tag.acse-pdu 0 0 1 ∷ [])
+extension-reply : (s : List ℕ) (v u q m : ℕ) → (v ≡ 0 → ⊥) → reply (glue [] m (Header s v u q)) ≡ accept false q (or m 2) (rec tag.acse-pdu 0 0 1 q ∷ [])
 unfolding reply glue then fork read mark or
 extension-reply s zero u q m n = absurd (n refl)
 extension-reply s (suc v) u q m n = refl
 
-body-reply : (s : List ℕ) (c : Cursor) (i : ℕ) (r : Body) → i < 5 → c .why ≡ 0 → Inside s c → Chosen s c i r → reply (then (soFar c []) (λ p. Index s i (c .end) p)) ≡ replyOf (heardOf i 0 r)
+body-reply : (s : List ℕ) (c : Cursor) (o i : ℕ) (r : Body) → i < 5 → c .why ≡ 0 → Inside s c → Chosen s c i r → reply (then (soFar c []) (λ p. Index s o i (c .end) p)) ≡ replyOf (heardOf i 0 o r)
 unfolding then
-body-reply s c i r l z y t =
-    let Q : List Rec = rec tag.acse-pdu 0 i 0 ∷ [] in
+body-reply s c o i r l z y t =
+    let Q : List Rec = rec tag.acse-pdu 0 i 0 o ∷ [] in
     let a : Ans = readChoice bodies i (0, 0) (bitOf s) (c .end) (c .at) in
     let h : glue Q (c .marks) a ≡ soFar (r .c) (Q ++ bodyRecs r) = rw (so-far-on c Q z) at (t .grows .grew y .gives Q) in
-    rw (going c (λ p. Index s i (c .end) p) z, pdu-body i (bitOf s) (c .end) (c .at) l, ← (glue-glue [] (c .marks) Q 0 (softly 7 true a)), or-nil (c .marks))
+    rw (going c (λ p. Index s o i (c .end) p) z, pdu-body i (bitOf s) (c .end) (c .at) l, ← (glue-glue [] (c .marks) Q 0 (softly 7 true a)), or-nil (c .marks))
     (soft-reply a Q (Q ++ bodyRecs r) (c .marks) (r .c) h)
 
 module _ {s : List ℕ} {g : Got} (x : Pulls s (start s) 1 g) where
@@ -112,7 +114,7 @@ module _ {s : List ℕ} {g : Got} (x : Pulls s (start s) 1 g) where
   hears-short n = record { is = behind-extension ∙ stopped-reply (g .c) _ n }
 
   module _ (z : g .c .why ≡ 0) where
-    pub hears-extended : (g .v ≡ 0 → ⊥) → Hears s (heardOf 0 1 (unreadBody (g .c) 2))
+    pub hears-extended : (g .v ≡ 0 → ⊥) → Hears s (heardOf 0 1 (g .c .at) (unreadBody (g .c) 2))
     unfolding place.marked place.stopped
     hears-extended n =
         record { is = behind-extension ∙ rw (going (g .c) (λ p. Header s (g .v) (g .c .end) p) z, eq-eqb (g .c .why) 0 z) (extension-reply s (g .v) (g .c .end) (g .c .at) (g .c .marks) n) }
@@ -121,9 +123,11 @@ module _ {s : List ℕ} {g : Got} (x : Pulls s (start s) 1 g) where
       inside : Inside s (g .c)
       inside = pulled-inside 1 g (Header s) begins (x .gave begins) .0
 
-      behind-index : readFrame acse s ≡ reply (then (soFar (h .c) []) (λ p. Index s (h .v) (h .c .end) p))
+      behind-index : readFrame acse s ≡ reply (then (soFar (h .c) []) (λ p. Index s (g .c .at) (h .v) (h .c .end) p))
       unfolding fork read width widthIn highest count
-      behind-index = behind-extension ∙ rw o (ap reply (pulled-step 3 h (Index s) [] (y .gave inside)))
+      behind-index =
+          let k : ℕ → Ans = λ p. read (choice tag.acse-pdu pdus) (0, 0) (bitOf s) (g .c .end) p in
+          behind-extension ∙ rw o (ap reply (so-far-same (g .c) [] k (λ p. Behind s 3 (Index s (g .c .at)) (g .c .end) p) (λ z. refl) ∙ pulled-step 3 h (Index s (g .c .at)) [] (y .gave inside)))
 
       pub hears-no-index : (h .c .why ≡ 0 → ⊥) → Hears s (RanOut (h .c .at) (h .c .why / 16))
       hears-no-index n = record { is = behind-index ∙ stopped-reply (h .c) _ n }
@@ -133,5 +137,5 @@ module _ {s : List ℕ} {g : Got} (x : Pulls s (start s) 1 g) where
         unfolding then glue reply stopped
         hears-unlisted l = record { is = behind-index ∙ rw (going (h .c) _ w, no-pdu (h .v) (bitOf s) (h .c .end) (h .c .at) l) }
 
-        pub hears-body : {r : Body} → h .v < 5 → Chosen s (h .c) (h .v) r → Hears s (heardOf (h .v) 0 r)
-        hears-body {r} l t = record { is = behind-index ∙ body-reply s (h .c) (h .v) r l w (pulled-inside 3 h (Index s) inside (y .gave inside) .0) t }
+        pub hears-body : {r : Body} → h .v < 5 → Chosen s (h .c) (h .v) r → Hears s (heardOf (h .v) 0 (g .c .at) r)
+        hears-body {r} l t = record { is = behind-index ∙ body-reply s (h .c) (g .c .at) (h .v) r l w (pulled-inside 3 h (Index s (g .c .at)) inside (y .gave inside) .0) t }

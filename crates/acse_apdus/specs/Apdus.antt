@@ -15,16 +15,16 @@ use Rattle.acse_apdus.specs.declared.Apdu.the-variants.{Heard, RanOut, B
 use Rattle.acse_reasons.specs.Notes.{noteRecs}
 
 abbrev pub messageReply : Message → Reply
-messageReply m = accept (m .cut) (m .reach) (m .marks) (rec tag.acse-pdu 0 (m .pdu) (m .second) ∷ noteRecs (m .first) ++ noteRecs (m .next))
+messageReply m = accept (m .cut) (m .reach) (m .marks) (rec tag.acse-pdu 0 (m .pdu) (m .second) (m .at) ∷ noteRecs (m .first) ++ noteRecs (m .next))
 
 abbrev pub replyOf : Apdu → Reply
 replyOf (Heard m) = messageReply m
 replyOf (RanOut p k) = ranOut p k
 replyOf (Badly p) = badly p
 
--- the message of a body, cut where the frame ended in it
-abbrev pub heardOf : ℕ → ℕ → Body → Apdu
-heardOf i y b = Heard (record { cut = not (eqb (b .c .why) 0); reach = b .c .at; marks = b .c .marks; pdu = i; second = y; first = b .first; next = b .next })
+-- the message of a body, cut where the frame ended in it, by its index and second number and the place of these
+abbrev pub heardOf : ℕ → ℕ → ℕ → Body → Apdu
+heardOf i y q b = Heard (record { cut = not (eqb (b .c .why) 0); reach = b .c .at; marks = b .c .marks; pdu = i; second = y; at = q; first = b .first; next = b .next })
 
 pub record Hears (s : List ℕ) (r : Apdu) : Type 0 where
   pub is : readFrame acse s ≡ replyOf r

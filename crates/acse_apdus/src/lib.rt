@@ -10,13 +10,14 @@ use acse_reasons::notes::Note;
 use cursor::place::Cursor;
 use cursor::place::bits;
 
-// Accepted: whether cut, the reach and the marks; the record of the message, by its value and second number, and two at most behind it.
+// Accepted: whether cut, the reach and the marks; the record of the message, by its value, second number and place, and two at most behind it.
 pub struct Message {
     pub cut: bool,
     pub reach: usize,
     pub marks: u64,
     pub pdu: u64,
     pub second: u64,
+    pub at: usize,
     pub first: Note,
     pub next: Note,
 }
@@ -29,8 +30,8 @@ pub enum Apdu {
 }
 
 // A body that the frame ended in is accepted, and cut.
-fn heard(pdu: u64, second: u64, body: Body) -> Apdu
-    ensures { λ r. ⌜ r ≡ heardOf pdu second body ⌝ }
+fn heard(pdu: u64, second: u64, at: usize, body: Body) -> Apdu
+    ensures { λ r. ⌜ r ≡ heardOf pdu second at body ⌝ }
 {
     let c = body.c;
     let first = body.first;
@@ -41,6 +42,7 @@ fn heard(pdu: u64, second: u64, body: Body) -> Apdu
         marks: c.marks,
         pdu: pdu,
         second: second,
+        at: at,
         first: first,
         next: next,
     };
@@ -63,7 +65,7 @@ pub fn read_apdu(s: &[u8]) -> Apdu
         return Apdu::RanOut(c.at, (c.why / 16) as usize);
     }
     if extension.v != 0 {
-        return heard(0, 1, unread(c, 2));
+        return heard(0, 1, c.at, unread(c, 2));
     }
     let index = bits(s, c, 3);
     let pdu = index.v;
@@ -75,5 +77,5 @@ pub fn read_apdu(s: &[u8]) -> Apdu
         return Apdu::Badly(d.at);
     }
     let body = read_body(s, d, pdu);
-    heard(pdu, 0, body)
+    heard(pdu, 0, c.at, body)
 }

@@ -17,7 +17,7 @@ use Rattle.cursor.specs.declared.place.Got.{Got}
 use Rattle.cursor.specs.Place.{Pulls}
 use Rattle.cursor.proofs.Laws.{Behind, marked-nil}
 use Rattle.acse_reasons.specs.SoFar.{Grows, Keeps}
-use Rattle.acse_reasons.proofs.GrowLaws.{grows-then, grows-same, grows-ok, grows-pull}
+use Rattle.acse_reasons.proofs.GrowLaws.{grows-then, grows-same, grows-here, grows-pull}
 use Rattle.acse_reasons.proofs.FormatLaws.{Read, fork-set}
 
 -- nothing follows
@@ -46,7 +46,7 @@ module _ (fs : Flds) (b : ℕ → ℕ) (e at : ℕ) (one : flags fs ≡ 1) (plai
 ---------------------------------------------------------------- a part whose absence is told
 
 abbrev Or : ℕ → ℕ → ℕ → Fmt → List ℕ → ℕ → ℕ → ℕ → Ans
-Or t v y f s w u q = fork w (ok q (rec t 0 v y ∷ []) 0) (Read f s u q)
+Or t v y f s w u q = fork w (ok q (rec t 0 v y q ∷ []) 0) (Read f s u q)
 
 module _ (t v y : ℕ) {f : Fmt} {s : List ℕ} {c d : Cursor} {R : List Rec} {g : Got} (p : Pulls s c 1 g) where
   or-note : Grows (Or t v y f s (g .v)) s (g .c) d R → Keeps (seq (orNote t v y f end)) s c d R
@@ -61,9 +61,9 @@ module _ (t v y : ℕ) {f : Fmt} {s : List ℕ} {c d : Cursor} {R : List Rec} {g
   pub keeps-given : (g .v ≡ 0 → ⊥) → Keeps f s (g .c) d R → Keeps (seq (orNote t v y f end)) s c d R
   keeps-given n h = or-note (grows-same (Read f s) (Or t v y f s (g .v)) (λ i z. sym (fork-set (g .v) _ _ n)) (h .grows))
 
-pub keeps-absent : (t v y : ℕ) {f : Fmt} {s : List ℕ} {c : Cursor} {g : Got} → Pulls s c 1 g → g .v ≡ 0 → Keeps (seq (orNote t v y f end)) s c (g .c) (cond (eqb (g .c .why) 0) (rec t 0 v y ∷ []) [])
+pub keeps-absent : (t v y : ℕ) {f : Fmt} {s : List ℕ} {c : Cursor} {g : Got} → Pulls s c 1 g → g .v ≡ 0 → Keeps (seq (orNote t v y f end)) s c (g .c) (cond (eqb (g .c .why) 0) (rec t 0 v y (g .c .at) ∷ []) [])
 unfolding fork
-keeps-absent t v y {g = g} p z = or-note t v y p (rw z (grows-ok (rec t 0 v y ∷ []) 0 (marked-nil (g .c))))
+keeps-absent t v y {g = g} p z = or-note t v y p (rw z (grows-here (λ q. rec t 0 v y q ∷ []) 0 (marked-nil (g .c))))
 
 ---------------------------------------------------------------- a part, and one that may follow it
 

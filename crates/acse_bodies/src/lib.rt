@@ -59,7 +59,7 @@ fn read_release(s: &[u8], c: Cursor, tag: u64) -> Body
     }
     let presence = bits(s, extension.c, 1);
     if presence.v == 0 {
-        let absent = note_at(presence.c, tag, 0, 2);
+        let absent = note_at(presence.c, tag, 0, 2, presence.c.at);
         return alone(absent);
     }
     let given = release_reason(s, presence.c, tag);

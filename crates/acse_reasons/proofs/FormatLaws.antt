@@ -15,7 +15,7 @@ use Rattle.cursor.specs.declared.place.Cursor.{Cursor}
 use Rattle.cursor.specs.declared.place.Got.{Got}
 use Rattle.cursor.specs.Place.{marked, Pulls, Takes}
 use Rattle.acse_reasons.specs.SoFar.{Grows, Keeps}
-use Rattle.acse_reasons.proofs.GrowLaws.{grows-same, grows-ok, grows-mark, grows-pull, grows-quiet, Quiet}
+use Rattle.acse_reasons.proofs.GrowLaws.{grows-same, grows-ok, grows-here, grows-mark, grows-pull, grows-from, grows-quiet, Quiet}
 
 abbrev pub Read : Fmt → List ℕ → ℕ → ℕ → Ans
 Read f s u p = read f (0, 0) (bitOf s) u p
@@ -47,9 +47,9 @@ module _ {f : Fmt} {s : List ℕ} {c d : Cursor} {g : Got} (p : Pulls s c 1 g) (
   unfolding read then glue mark or
   keeps-unread = keeps-set p n (grows-mark 2 q)
 
-  pub keeps-extended : (t : ℕ) → Keeps (ext f (extended t)) s c d (cond (eqb (d .why) 0) (rec t 0 0 1 ∷ []) [])
+  pub keeps-extended : (t : ℕ) → Keeps (ext f (extended t)) s c d (cond (eqb (d .why) 0) (rec t 0 0 1 (g .c .at) ∷ []) [])
   unfolding read then glue mark or
-  keeps-extended t = keeps-set p n (grows-ok (rec t 0 0 1 ∷ []) 2 q)
+  keeps-extended t = keeps-set p n (grows-here (λ r. rec t 0 0 1 r ∷ []) 2 q)
 
 ---------------------------------------------------------------- numbers
 
@@ -66,6 +66,6 @@ unfolding read
 keeps-number t lo hi {s} {c} h = record { grows = grows-quiet (Read (num t lo hi) s) (pull-quiet (bitOf s) (c .end) (c .at) (width (extent lo hi)) _ (λ v. tt)) (h .took (0, 0)) }
 
 pub keeps-listed : (t hi : ℕ) (xs : List ℕ) {s : List ℕ} {c d : Cursor} {g : Got} → Pulls s c (width hi) g → d ≡ marked (g .c) (unless (leb (g .v) hi && member (g .v) xs) 1)
-    → Keeps (listed t hi xs) s c d (cond (eqb (d .why) 0) (rec t 0 (g .v) 0 ∷ []) [])
+    → Keeps (listed t hi xs) s c d (cond (eqb (d .why) 0) (rec t 0 (g .v) 0 (c .at) ∷ []) [])
 unfolding read
-keeps-listed t hi xs {g = g} p q = record { grows = grows-pull (width hi) g (λ v u r. ok r (rec t 0 v 0 ∷ []) (unless (leb v hi && member v xs) 1)) p (grows-ok _ _ q) }
+keeps-listed t hi xs {g = g} p q = record { grows = grows-from (width hi) g (λ a v u r. ok r (rec t 0 v 0 a ∷ []) (unless (leb v hi && member v xs) 1)) p (grows-ok _ _ q) }

@@ -8,7 +8,7 @@ use lib.Dec.{eqb}
 use borrow.Author.Tests.{eq-eqb, ne-eqb}
 use Rattle.x691.specs.Bits.{bitOf}
 use Rattle.atn.specs.Format.{out, bad, lack, quit}
-use Rattle.atn.specs.Reading.{Rec, Ans, ok, past, stop, glue, late, then, or}
+use Rattle.atn.specs.Reading.{Rec, Ans, ok, past, stop, glue, late, then, or, pull}
 use Rattle.atn.proofs.Marks.{or-assoc, or-nil}
 use Rattle.atn.proofs.Steps.{pull-go, pull-no}
 use Rattle.cursor.specs.declared.place.Cursor.{Cursor}
@@ -100,6 +100,10 @@ grows-ok {s} {c} {d} R m q = by-why c
     let y : d ≡ c = q ∙ rw (ne-eqb (c .why) 0 n) in
     rw (y, ne-eqb (c .why) 0 n) record { grew = λ i. record { inside = i; window = refl; gives = λ Q. rw (ne-eqb (c .why) 0 n, append-nil Q) } })
 
+-- records that have the place where the reading stands
+pub grows-here : {s : List ℕ} {c d : Cursor} (R : ℕ → List Rec) (m : ℕ) → d ≡ marked c m → Grows (λ u p. ok p (R p) m) s c d (cond (eqb (d .why) 0) (R (c .at)) [])
+grows-here {c = c} R m q = grows-same (λ u p. ok p (R (c .at)) m) (λ u p. ok p (R p) m) (λ i z. refl) (grows-ok (R (c .at)) m q)
+
 pub grows-mark : {s : List ℕ} {c d : Cursor} (m : ℕ) → d ≡ marked c m → Grows (λ u p. ok p [] m) s c d []
 grows-mark {s} {c} {d} m q = go (eqb (d .why) 0) (grows-ok [] m q)
   where
@@ -158,3 +162,8 @@ module _ {s : List ℕ} {c : Cursor} (n : ℕ) (g : Got) (k : ℕ → ℕ → �
             let f = y .grew (o .0) in
             record { inside = f .inside; window = f .window ∙ o .1; gives = λ Q. pulled-step Q (x .gave i) ∙ f .gives Q };
       }
+
+-- the same where what follows also knows the place at which the bits started
+pub grows-from : {s : List ℕ} {c d : Cursor} {R : List Rec} (n : ℕ) (g : Got) (k : ℕ → ℕ → ℕ → ℕ → Ans) → Pulls s c n g → Grows (λ u q. k (c .at) (g .v) u q) s (g .c) d R
+    → Grows (λ u p. pull (bitOf s) u p n (λ v. k p v u (p + n))) s c d R
+grows-from {s} {c} n g k x y = grows-same (Behind s n (k (c .at))) (λ u p. pull (bitOf s) u p n (λ v. k p v u (p + n))) (λ i z. refl) (grows-pull n g (k (c .at)) x y)

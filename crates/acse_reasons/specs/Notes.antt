@@ -11,14 +11,14 @@ use Rattle.acse_reasons.specs.declared.notes.Note.{Note}
 use Rattle.acse_reasons.specs.declared.notes.NoteAt.{NoteAt}
 
 abbrev pub noteRecs : Note → List Rec
-noteRecs n = cond (n .told) (rec (n .tag) 0 (n .value) (n .second) ∷ []) []
+noteRecs n = cond (n .told) (rec (n .tag) 0 (n .value) (n .second) (n .at) ∷ []) []
 
 -- told unless the cursor has stopped
-abbrev pub noteAt : Cursor → ℕ → ℕ → ℕ → NoteAt
-noteAt c t v y = record { note = record { told = eqb (c .why) 0; tag = t; value = v; second = y }; c = c }
+abbrev pub noteAt : Cursor → ℕ → ℕ → ℕ → ℕ → NoteAt
+noteAt c t v y q = record { note = record { told = eqb (c .why) 0; tag = t; value = v; second = y; at = q }; c = c }
 
 abbrev pub blank : Note
-blank = record { told = false; tag = 0; value = 0; second = 0 }
+blank = record { told = false; tag = 0; value = 0; second = 0; at = 0 }
 
 abbrev pub listedReason : ℕ → Fmt
 listedReason t = ext (listed t 30 (0 ∷ 1 ∷ 30 ∷ [])) (extended t)

@@ -9,6 +9,7 @@ pub struct Note {
     pub tag: u64,
     pub value: u64,
     pub second: u64,
+    pub at: usize,
 }
 
 // A note, and the place behind what was read for it.
@@ -17,15 +18,16 @@ pub struct NoteAt {
     pub c: Cursor,
 }
 
-// What was read up to c, unless the reading stopped there.
-pub fn note_at(c: Cursor, tag: u64, value: u64, second: u64) -> NoteAt
-    ensures { λ r. ⌜ r ≡ noteAt c tag value second ⌝ }
+// What was read up to c and starts at `at`, unless the reading stopped there.
+pub fn note_at(c: Cursor, tag: u64, value: u64, second: u64, at: usize) -> NoteAt
+    ensures { λ r. ⌜ r ≡ noteAt c tag value second at ⌝ }
 {
     let note = Note {
         told: c.why == 0,
         tag: tag,
         value: value,
         second: second,
+        at: at,
     };
     NoteAt { note: note, c: c }
 }
@@ -39,5 +41,6 @@ pub fn untold() -> Note
         tag: 0,
         value: 0,
         second: 0,
+        at: 0,
     }
 }

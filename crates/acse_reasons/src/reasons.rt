@@ -21,10 +21,10 @@ use field_ranges::table::Range;
 use ranged_numbers::ranged;
 
 fn extended(c: Cursor, tag: u64) -> NoteAt
-    ensures { λ r. ⌜ r ≡ noteAt (marked c 2) tag 0 1 ⌝ }
+    ensures { λ r. ⌜ r ≡ noteAt (marked c 2) tag 0 1 (c .at) ⌝ }
 {
     let d = mark(c, 2);
-    note_at(d, tag, 0, 1)
+    note_at(d, tag, 0, 1, c.at)
 }
 
 // A number of the range, which begins at 0.
@@ -37,7 +37,7 @@ pub fn reason(s: &[u8], c: Cursor, range: Range, tag: u64) -> NoteAt
         return extended(extension.c, tag);
     }
     let number = ranged(s, extension.c, range);
-    note_at(number.c, tag, number.v, 0)
+    note_at(number.c, tag, number.v, 0, extension.c.at)
 }
 
 // The mark of a release reason: 0, 1 and 30 are listed.
@@ -63,5 +63,5 @@ pub fn release_reason(s: &[u8], c: Cursor, tag: u64) -> NoteAt
     }
     let index = bits(s, extension.c, 5);
     let d = mark(index.c, unlisted(index.v));
-    note_at(d, tag, index.v, 0)
+    note_at(d, tag, index.v, 0, extension.c.at)
 }
