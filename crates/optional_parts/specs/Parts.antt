@@ -30,8 +30,8 @@ unfoldable pub chosen : Flds → ℕ → ℕ → Ctx → (ℕ → ℕ) → ℕ �
 chosen end r v x b e at = ok at [] 0
 chosen (f ⨾ fs) r v x b e at = then (read f x b e at) λ p. chosen fs r v x b e p
 chosen (f ⨾? fs) r v x b e at = then (fork (v / 2 ^ (flags fs + r) % 2) (ok at [] 0) (read f x b e at)) λ p. chosen fs r v x b e p
-chosen (orNote t y z f fs) r v x b e at = then (fork (v / 2 ^ (flags fs + r) % 2) (ok at (rec t (x .0) y z ∷ []) 0) (read f x b e at)) λ p. chosen fs r v x b e p
-chosen (unread t fs) r v x b e at = then (fork (v / 2 ^ (flags fs + r) % 2) (ok at [] 0) (ok at (rec t (x .0) 1 0 ∷ []) (mark 4))) λ p. chosen fs r v x b e p
+chosen (orNote t y z f fs) r v x b e at = then (fork (v / 2 ^ (flags fs + r) % 2) (ok at (rec t (x .0) y z at ∷ []) 0) (read f x b e at)) λ p. chosen fs r v x b e p
+chosen (unread t fs) r v x b e at = then (fork (v / 2 ^ (flags fs + r) % 2) (ok at [] 0) (ok at (rec t (x .0) 1 0 at ∷ []) (mark 4))) λ p. chosen fs r v x b e p
 
 pub record Fields (b : ℕ) (fs : Flds) (o v : ℕ) (s : List ℕ) (c : Cursor) (n : ℕ) (w w′ : List ℕ) (r : At) : Type 0 where
   pub run : (i : ℕ) → Part b (λ e p. chosen fs o v (0, i) (bitOf s) e p) s c n w w′ r

@@ -5,9 +5,9 @@ ghost use Prim.Native.Nat.{_≤_};
 ghost use lib.ListN.{length, drop};
 
 // How many there are: enough for the records of most messages, 48 of CPDLC and 24 of CM.
-pub const CPDLC_SPARE: usize = 192;
+pub const CPDLC_SPARE: usize = 240;
 
-pub const CM_SPARE: usize = 96;
+pub const CM_SPARE: usize = 120;
 
 // All of `from` at the front of `to`.
 pub fn copy(from: &[u64], to: &mut [u64])
