@@ -63,10 +63,10 @@ marksOf (past lacked p R m) = m
 marksOf (stop w p R m) = m
 
 abbrev probe : ℕ → ℕ → Ans
-probe n q = ok q (rec 0 0 n 0 ∷ []) 0
+probe n q = ok q (rec 0 0 n 0 0 ∷ []) 0
 
 module _ (b : ℕ → ℕ) (e at lo hi : ℕ) where
-  sized-there : {v p m : ℕ} → sized b e at lo hi probe ≡ ok p (rec 0 0 v 0 ∷ []) m → (K : ℕ → ℕ → Ans) → (sized b e at lo hi K ≡ then (ok p [] m) (K v)) × (v ≡ lo + uint b at (width (hi - lo)))
+  sized-there : {v p m : ℕ} → sized b e at lo hi probe ≡ ok p (rec 0 0 v 0 0 ∷ []) m → (K : ℕ → ℕ → Ans) → (sized b e at lo hi K ≡ then (ok p [] m) (K v)) × (v ≡ lo + uint b at (width (hi - lo)))
   unfolding sized then glue
   sized-there {v} {p} {m} h K = by (leb (at + width (hi - lo)) e) refl
     where
@@ -74,7 +74,7 @@ module _ (b : ℕ → ℕ) (e at lo hi : ℕ) where
       by true q =
           let y : at + width (hi - lo) ≤ e = leb-true _ e q in
           let u : ℕ = lo + uint b at (width (hi - lo)) in
-          let f : sized b e at lo hi probe ≡ ok (at + width (hi - lo)) (rec 0 0 u 0 ∷ []) (or (over hi u) 0) = pull-go b e at _ _ y in
+          let f : sized b e at lo hi probe ≡ ok (at + width (hi - lo)) (rec 0 0 u 0 0 ∷ []) (or (over hi u) 0) = pull-go b e at _ _ y in
           let r : v ≡ u = cc in
           let n : m ≡ over hi u = ap marksOf (sym h ∙ f) ∙ or-nil _ in
           let g : p ≡ at + width (hi - lo) = cc in
@@ -89,14 +89,14 @@ module _ (b : ℕ → ℕ) (e at lo hi : ℕ) where
       by true q =
           let y : at + width (hi - lo) ≤ e = leb-true _ e q in
           let u : ℕ = lo + uint b at (width (hi - lo)) in
-          let f : sized b e at lo hi probe ≡ ok (at + width (hi - lo)) (rec 0 0 u 0 ∷ []) (or (over hi u) 0) = pull-go b e at _ _ y in
+          let f : sized b e at lo hi probe ≡ ok (at + width (hi - lo)) (rec 0 0 u 0 0 ∷ []) (or (over hi u) 0) = pull-go b e at _ _ y in
           let z : _≡_ {A = ℕ} 0 1 = cc in
           absurd (omega arith)
       by false q = pull-no b e at _ _ (leb-false _ e q) ∙ sym (pull-no b e at _ _ (leb-false _ e q)) ∙ h
 
 module _ {k : ℕ} {s : List ℕ} {c : Cursor} {g : Got} (z : Sized k s c g) where
-  probed : Reads (λ e p. sized (bitOf s) e p (lowest k) (highest k) probe) s c (g .c) (rec 0 0 (g .v) 0 ∷ [])
-  probed = z .size (λ n e q. probe n q) (reads-ok (rec 0 0 (g .v) 0 ∷ []) 0 (marked-nil (g .c)))
+  probed : Reads (λ e p. sized (bitOf s) e p (lowest k) (highest k) probe) s c (g .c) (rec 0 0 (g .v) 0 0 ∷ [])
+  probed = z .size (λ n e q. probe n q) (reads-ok (rec 0 0 (g .v) 0 0 ∷ []) 0 (marked-nil (g .c)))
 
   pub sized-inside : Inside s c → Inside s (g .c)
   sized-inside i = led-inside _ s c (g .c) (probed .led i) i
@@ -105,7 +105,7 @@ module _ {k : ℕ} {s : List ℕ} {c : Cursor} {g : Got} (z : Sized k s c g) whe
   pub sized-value : Inside s c → c .why ≡ 0 → g .c .why ≡ 0 → g .v ≡ lowest k + uint (bitOf s) (c .at) (width (highest k - lowest k))
   sized-value i y h = go (probed .led i)
     where
-      go : Led (λ e p. sized (bitOf s) e p (lowest k) (highest k) probe) c (g .c) (rec 0 0 (g .v) 0 ∷ []) → g .v ≡ lowest k + uint (bitOf s) (c .at) (width (highest k - lowest k))
+      go : Led (λ e p. sized (bitOf s) e p (lowest k) (highest k) probe) c (g .c) (rec 0 0 (g .v) 0 0 ∷ []) → g .v ≡ lowest k + uint (bitOf s) (c .at) (width (highest k - lowest k))
       go (place.Led.stayed n q) = absurd (n y)
       go (place.Led.went p m x a u q) = sized-there (bitOf s) (c .end) (c .at) (lowest k) (highest k) a probe .1
       go (place.Led.failed w p m S n x a u q) = absurd (n (rw q at h))
@@ -119,7 +119,7 @@ module _ {k : ℕ} {s : List ℕ} {c : Cursor} {g : Got} (z : Sized k s c g) whe
         told = y .told;
       }
     where
-      go : Inside s c → Led (λ e p. sized (bitOf s) e p (lowest k) (highest k) probe) c (g .c) (rec 0 0 (g .v) 0 ∷ []) → Ran (λ e p. K v e p) (g .c) (r .c) (y .recs)
+      go : Inside s c → Led (λ e p. sized (bitOf s) e p (lowest k) (highest k) probe) c (g .c) (rec 0 0 (g .v) 0 0 ∷ []) → Ran (λ e p. K v e p) (g .c) (r .c) (y .recs)
           → Ran (λ e p. sized (bitOf s) e p (lowest k) (highest k) (λ n q. K n e q)) c (r .c) (y .recs)
       go i (place.Led.stayed n q) x = let t = ran-stays (λ e p. K v e p) (g .c) (r .c) (rw q n) x in stayed n (t .0 ∙ q) (t .1)
       go i (place.Led.went p m h a u q) x =

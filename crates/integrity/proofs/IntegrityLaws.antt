@@ -27,10 +27,10 @@ module _ {s : List ℕ} {c d : Cursor} {l : Measured} (measures : Measures s c l
   abbrev reading : ℕ → ℕ → Ans
   reading e p = read (anySpan 18 1) (0, 0) (bitOf s) e p
 
-  led : Inside s c → Led reading c d (spanned 18 0 (l .c .at) (l .count))
+  led : Inside s c → Led reading c d (spanned 18 0 (c .at) (l .c .at) (l .count))
   led i =
       let z : l .count * 1 ≡ l .count = omega arith in
-      let t : Takes (anySpan 18 1) s c d (λ n. spanned 18 n (l .c .at) (l .count * 1)) = takes-any-span 18 1 measures (rw z passes) in
+      let t : Takes (anySpan 18 1) s c d (λ n. spanned 18 n (c .at) (l .c .at) (l .count * 1)) = takes-any-span 18 1 measures (rw z passes) in
       rw z at (t .took (0, 0) .led i)
 
   pub integrity-cut : {n : ℕ} {w : List ℕ} → c .why ≡ 0 → d .why % 16 ≡ 4 → Runs 1 (integrity s) s c n w w (record { n = n; c = put d (d .at) 7 (d .marks) })
@@ -45,10 +45,10 @@ module _ {s : List ℕ} {c d : Cursor} {l : Measured} (measures : Measures s c l
   unfolding integrity read spanned
   integrity-none h n₄ n₅ z = record { recs = []; ran = λ i. soft-went 7 reading (rw z at (led i)) h n₄ n₅; told = told-within 1 (omega arith) told-none }
 
-  pub integrity-some : {n m : ℕ} {w w′ : List ℕ} → c .why ≡ 0 → (d .why % 16 ≡ 4 → ⊥) → (d .why ≡ 5 → ⊥) → (l .count ≡ 0 → ⊥) → Told 1 w w′ n m (rec 18 0 (l .c .at) (l .count) ∷ []) → Runs 1 (integrity s) s c n w w′ (record { n = m; c = d })
+  pub integrity-some : {n m : ℕ} {w w′ : List ℕ} → c .why ≡ 0 → (d .why % 16 ≡ 4 → ⊥) → (d .why ≡ 5 → ⊥) → (l .count ≡ 0 → ⊥) → Told 1 w w′ n m (rec 18 0 (l .c .at) (l .count) (c .at) ∷ []) → Runs 1 (integrity s) s c n w w′ (record { n = m; c = d })
   unfolding integrity read spanned
-  integrity-some {n} {m} {w} {w′} h n₄ n₅ z t = record { recs = spanned 18 0 (l .c .at) (l .count); ran = λ i. soft-went 7 reading (led i) h n₄ n₅; told = go (l .count) z t }
+  integrity-some {n} {m} {w} {w′} h n₄ n₅ z t = record { recs = spanned 18 0 (c .at) (l .c .at) (l .count); ran = λ i. soft-went 7 reading (led i) h n₄ n₅; told = go (l .count) z t }
     where
-      go : (k : ℕ) → (k ≡ 0 → ⊥) → Told 1 w w′ n m (rec 18 0 (l .c .at) k ∷ []) → Told 1 w w′ n m (spanned 18 0 (l .c .at) k)
+      go : (k : ℕ) → (k ≡ 0 → ⊥) → Told 1 w w′ n m (rec 18 0 (l .c .at) k (c .at) ∷ []) → Told 1 w w′ n m (spanned 18 0 (c .at) (l .c .at) k)
       go zero y u = absurd (y refl)
       go (suc k) y u = u

@@ -45,6 +45,6 @@ pub fn read_integrity(s: &[u8], words: &mut [u64], n: usize, c: Cursor) -> At
     if l.count == 0 {
         return At { n: n, c: end };
     }
-    let m = emit(words, n, 18, 0, at as u64, l.count as u64);
+    let m = emit(words, n, 18, 0, at as u64, l.count as u64, c.at);
     At { n: m, c: end }
 }

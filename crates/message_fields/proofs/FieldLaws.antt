@@ -11,7 +11,7 @@ use Rattle.cursor.specs.declared.place.Cursor.{Cursor}
 use Rattle.cursor.specs.declared.place.Got.{Got}
 use Rattle.field_ranges.specs.Ends.{lowest, highest}
 use Rattle.ranged_numbers.specs.Numbers.{Ranged}
-use Rattle.cursor.proofs.Laws.{reads-ok, marked-nil}
+use Rattle.cursor.proofs.Laws.{reads-ok, reads-here, marked-nil}
 use Rattle.records.specs.Told.{Told}
 use Rattle.runs.specs.declared.At.{At}
 use Rattle.runs.specs.Runs.{Runs}
@@ -21,7 +21,7 @@ use Rattle.date_times.specs.Times.{DateTimes, dateTimeRecs}
 use Rattle.message_fields.specs.Fields.{numberField, maybeNumberField, dateTimeField, acknowledgmentField}
 
 module _ (row t : ℕ) {s : List ℕ} {c : Cursor} {g : Got} (h : Ranged row s c g) where
-  pub number-told : {n m : ℕ} {w w′ : List ℕ} → g .c .why ≡ 0 → Told 1 w w′ n m (rec t 0 (g .v) 0 ∷ []) → Runs 1 (numberField row t s) s c n w w′ (record { n = m; c = g .c })
+  pub number-told : {n m : ℕ} {w w′ : List ℕ} → g .c .why ≡ 0 → Told 1 w w′ n m (rec t 0 (g .v) 0 (c .at) ∷ []) → Runs 1 (numberField row t s) s c n w w′ (record { n = m; c = g .c })
   unfolding numberField
   number-told z y = runs-told (numberField row t s) (h .number t .took (0, 0)) z y
 
@@ -48,7 +48,7 @@ module _ {s : List ℕ} {c : Cursor} {g : DateTimeAt} (h : DateTimes s c g) wher
   date-time-untold z = runs-within 6 (dateTimeField s) (omega arith) (runs-untold (dateTimeField s) (h .takes .took (0, 0)) z)
 
 abbrev absent : ℕ → ℕ → Ans
-absent e p = ok p (rec 17 0 1 0 ∷ []) 0
+absent e p = ok p (rec 17 0 1 0 p ∷ []) 0
 
 abbrev there : List ℕ → ℕ → ℕ → Ans
 there s e p = read (num 17 0 1) (0, 0) (bitOf s) e p
@@ -58,9 +58,9 @@ module _ (has : ℕ) {s : List ℕ} {c : Cursor} {n : ℕ} {w : List ℕ} where
   unfolding acknowledgmentField
   acknowledgment-stuck z h = runs-clear absent (there s) has z (runs-within 1 absent (omega arith) (runs-stayed absent h))
 
-  pub acknowledgment-absent : {m : ℕ} {w′ : List ℕ} → has ≡ 0 → c .why ≡ 0 → Told 1 w w′ n m (rec 17 0 1 0 ∷ []) → Runs 1 (acknowledgmentField has s) s c n w w′ (record { n = m; c = c })
+  pub acknowledgment-absent : {m : ℕ} {w′ : List ℕ} → has ≡ 0 → c .why ≡ 0 → Told 1 w w′ n m (rec 17 0 1 0 (c .at) ∷ []) → Runs 1 (acknowledgmentField has s) s c n w w′ (record { n = m; c = c })
   unfolding acknowledgmentField
-  acknowledgment-absent z h x = runs-clear absent (there s) has z (runs-told absent (reads-ok _ 0 (marked-nil c)) h x)
+  acknowledgment-absent z h x = runs-clear absent (there s) has z (runs-told absent (reads-here (λ p. rec 17 0 1 0 p ∷ []) 0 (marked-nil c)) h x)
 
   pub acknowledgment-there : {w′ : List ℕ} {r : At} → (has ≡ 0 → ⊥) → Runs 1 (numberField 0 17 s) s c n w w′ r → Runs 1 (acknowledgmentField has s) s c n w w′ r
   unfolding acknowledgmentField numberField lowest highest

@@ -18,4 +18,4 @@ unfoldable pub dateTimeField : List ℕ → ℕ → ℕ → Ans
 dateTimeField s e p = read dateTimeGroup (0, 0) (bitOf s) e p
 
 unfoldable pub acknowledgmentField : ℕ → List ℕ → ℕ → ℕ → Ans
-acknowledgmentField has s e p = fork has (ok p (rec tag.logical-ack 0 1 0 ∷ []) 0) (read (num tag.logical-ack 0 1) (0, 0) (bitOf s) e p)
+acknowledgmentField has s e p = fork has (ok p (rec tag.logical-ack 0 1 0 p ∷ []) 0) (read (num tag.logical-ack 0 1) (0, 0) (bitOf s) e p)

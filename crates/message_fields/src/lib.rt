@@ -17,12 +17,13 @@ pub fn number_field(s: &[u8], words: &mut [u64], x: At, range: Range, tag: u64) 
     ensures { λ r. ⌜ Runs 1 (numberField (range .row) tag (now (s .entry))) (now (s .entry)) (x .c) (x .n) (now (words .entry)) (now (words .exit)) r ⌝ }
 {
     let n = x.n;
+    let at = x.c.at;
     let g = ranged(s, x.c, range);
     let d = g.c;
     if d.why != 0 {
         return At { n: n, c: d };
     }
-    let m = emit(words, n, tag, 0, g.v, 0);
+    let m = emit(words, n, tag, 0, g.v, 0, at);
     At { n: m, c: d }
 }
 
@@ -69,7 +70,7 @@ pub fn acknowledgment_field(s: &[u8], words: &mut [u64], x: At, has: u64) -> At
         if d.why != 0 {
             return x;
         }
-        let m = emit(words, n, 17, 0, 1, 0);
+        let m = emit(words, n, 17, 0, 1, 0, d.at);
         return At { n: m, c: d };
     }
     number_field(s, words, x, SIDE, 17)
