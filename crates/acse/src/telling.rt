@@ -32,18 +32,19 @@ fn tell(words: &mut [u64], n: usize, note: Note) -> usize
     ensures { λ m. ⌜ Told 1 (now (words .entry)) (now (words .exit)) n m (noteRecs note) ⌝ }
 {
     if note.told {
-        return emit(words, n, note.tag, 0, note.value, note.second);
+        return emit(words, n, note.tag, 0, note.value, note.second, note.at);
     }
     n
 }
 
 // All records of a message, from the front on.
 fn tell_all(words: &mut [u64], message: Message) -> usize
-    ensures { λ m. ⌜ Told 3 (now (words .entry)) (now (words .exit)) 0 m (rec acse-pdu 0 (message .pdu) (message .second) ∷ noteRecs (message .first) ++ noteRecs (message .next)) ⌝ }
+    ensures { λ m. ⌜ Told 3 (now (words .entry)) (now (words .exit)) 0 m (rec acse-pdu 0 (message .pdu) (message .second) (message .at) ∷ noteRecs (message .first) ++ noteRecs (message .next)) ⌝ }
 {
     let first = message.first;
     let next = message.next;
-    let n = emit(words, 0, tags::ACSE_PDU, 0, message.pdu, message.second);
+    let at = message.at;
+    let n = emit(words, 0, tags::ACSE_PDU, 0, message.pdu, message.second, at);
     let m = tell(words, n, first);
     tell(words, m, next)
 }

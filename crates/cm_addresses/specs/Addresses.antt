@@ -9,9 +9,9 @@ use Rattle.atn.specs.Tags as tag
 use Rattle.cursor.specs.declared.place.Cursor.{Cursor}
 use Rattle.cursor.specs.Place.{Reads}
 
--- k octets, told by where they stand: tag
-pub record Octets (t k : ℕ) (s : List ℕ) (c d : Cursor) (T : ℕ → List Rec) : Type 0 where
-  pub took : (x : Ctx) → Reads (λ e q. pull (bitOf s) e q (k * 8) λ _. ok (q + k * 8) (spanned t (x .0) q (k * 8)) 0) s c d (T (x .0))
+-- k octets, told by where they stand: tag, and where their field starts
+pub record Octets (t o k : ℕ) (s : List ℕ) (c d : Cursor) (T : ℕ → List Rec) : Type 0 where
+  pub took : (x : Ctx) → Reads (λ e q. pull (bitOf s) e q (k * 8) λ _. ok (q + k * 8) (spanned t (x .0) o q (k * 8)) 0) s c d (T (x .0))
 
 -- the transport address behind its first octets
 abbrev pub shortTsap : Fmt

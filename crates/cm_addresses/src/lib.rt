@@ -16,10 +16,10 @@ use length_determinants::pass;
 use per::units::Octets;
 use records::emit;
 
-// So many octets, passed over; none are not told.
-fn octets(words: &mut [u64], at: Step, size: Octets, tag: u64) -> Step
+// So many octets of a field that starts at `from`, passed over; none are not told.
+fn octets(words: &mut [u64], at: Step, from: usize, size: Octets, tag: u64) -> Step
     requires { ⌜ (at .n < 2 ^ 20) × (size .0 < 512) ⌝ }
-    ensures { λ r. ⌜ ((s : List ℕ) → Does 1 (Spanned tag (size .0) s) at r (now (words .entry)) (now (words .exit))) ⌝ }
+    ensures { λ r. ⌜ ((s : List ℕ) → Does 1 (Spanned tag from (size .0) s) at r (now (words .entry)) (now (words .exit))) ⌝ }
 {
     let c = at.c;
     let first = c.at;
@@ -28,7 +28,7 @@ fn octets(words: &mut [u64], at: Step, size: Octets, tag: u64) -> Step
     if bits.0 == 0 {
         return Step { c: d, n: at.n };
     }
-    let n = emit(words, at.n, tag, 0, first as u64, bits.0 as u64);
+    let n = emit(words, at.n, tag, 0, first as u64, bits.0 as u64, from);
     Step { c: d, n: n }
 }
 
@@ -39,7 +39,7 @@ fn maybe_ars(words: &mut [u64], at: Step, has: u64) -> Step
     if has == 0 {
         return at;
     }
-    octets(words, at, Octets(3), tags::ARS)
+    octets(words, at, at.c.at, Octets(3), tags::ARS)
 }
 
 fn selectors(words: &mut [u64], at: Step, s: &[u8]) -> Step
@@ -49,7 +49,13 @@ fn selectors(words: &mut [u64], at: Step, s: &[u8]) -> Step
     let g = size(s, at.c, SELECTOR_SIZE);
     let c = g.c;
     let behind = Step { c: c, n: at.n };
-    octets(words, behind, Octets(g.v as usize), tags::LOC_SYS_NSEL_TSEL)
+    octets(
+        words,
+        behind,
+        at.c.at,
+        Octets(g.v as usize),
+        tags::LOC_SYS_NSEL_TSEL,
+    )
 }
 
 fn short_tsap(words: &mut [u64], at: Step, s: &[u8]) -> Step
@@ -67,6 +73,6 @@ pub fn long_tsap(words: &mut [u64], at: Step, s: &[u8]) -> Step
     requires { ⌜ at .n < 2 ^ 18 ⌝ }
     ensures { λ r. ⌜ Does 3 (Takes longTsap (now (s .entry))) at r (now (words .entry)) (now (words .exit)) ⌝ }
 {
-    let rdp = octets(words, at, Octets(5), tags::RDP);
+    let rdp = octets(words, at, at.c.at, Octets(5), tags::RDP);
     short_tsap(words, rdp, s)
 }

@@ -14,7 +14,7 @@ use Rattle.cursor.specs.Place.{stopped, Takes}
 use Rattle.cursor.specs.Formats.{Times}
 use Rattle.field_ranges.specs.Ends.{lowest, highest}
 use Rattle.character_strings.specs.Texts.{Sized}
-use Rattle.cursor.proofs.Laws.{reads-then, reads-ok, marked-nil}
+use Rattle.cursor.proofs.Laws.{reads-then, reads-here, marked-nil}
 use Rattle.cursor.proofs.FormatLaws.{allRead}
 use Rattle.records.specs.Told.{Told}
 use Rattle.records.proofs.Telling.{told-then}
@@ -26,12 +26,12 @@ use Rattle.cm_parts.proofs.DoesLaws.{does-within, does-refused, does-must, does
 ---------------------------------------------------------------- entries
 
 module _ {t i : ℕ} {f : Fmt} {s : List ℕ} {a z : Step} {w w₁ w₂ : List ℕ} {m b : ℕ} where
-  does-placed : Told 1 w w₁ (a .n) m (rec t 0 i 0 ∷ []) → Does b (Takes f s) (record { c = a .c; n = m }) z w₁ w₂ → Does (1 + b) (At (placed t f) i s) a z w w₂
+  does-placed : Told 1 w w₁ (a .n) m (rec t 0 i 0 (a .c .at) ∷ []) → Does b (Takes f s) (record { c = a .c; n = m }) z w₁ w₂ → Does (1 + b) (At (placed t f) i s) a z w w₂
   unfolding read
   does-placed e x =
       record {
-        recs = λ n. rec t n i 0 ∷ x .recs n;
-        reads = record { took = λ n. reads-then (λ u p. ok p (rec t n i 0 ∷ []) 0) (λ u p. read f (n, i) (bitOf s) u p) (reads-ok _ 0 (marked-nil (a .c))) (x .reads .took (n, i)) };
+        recs = λ n. rec t n i 0 (a .c .at) ∷ x .recs n;
+        reads = record { took = λ n. reads-then (λ u p. ok p (rec t n i 0 p ∷ []) 0) (λ u p. read f (n, i) (bitOf s) u p) (reads-here (λ p. rec t n i 0 p ∷ []) 0 (marked-nil (a .c))) (x .reads .took (n, i)) };
         told = told-then e (x .told);
       }
 
@@ -42,7 +42,7 @@ abbrev version : Fmt
 version = num tag.ap-version (lowest 44) (highest 44)
 
 -- the record of an entry's place, and its two numbers
-module _ {t i : ℕ} {s : List ℕ} {a b z : Step} {w w₁ w₂ w₃ : List ℕ} {m : ℕ} (place : Told 1 w w₁ (a .n) m (rec t 0 i 0 ∷ [])) where
+module _ {t i : ℕ} {s : List ℕ} {a b z : Step} {w w₁ w₂ w₃ : List ℕ} {m : ℕ} (place : Told 1 w w₁ (a .n) m (rec t 0 i 0 (a .c .at) ∷ [])) where
   pub entry-plain : {v : Bool} → v ≡ false → Does 1 (Takes qualifier s) (record { c = a .c; n = m }) b w₁ w₂ → Does 1 (Takes version s) b z w₂ w₃ → Does 3 (At (entryOf v t) i s) a z w w₃
   unfolding lowest highest flags allRead
   entry-plain e x y = rw e (does-placed place (does-plain refl refl (does-must x (does-last y))))

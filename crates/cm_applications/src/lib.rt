@@ -20,7 +20,7 @@ fn entry(words: &mut [u64], at: Step, s: &[u8], addressed: bool, tag: u64, place
     ensures { λ r. ⌜ Does 3 (At (entryOf addressed tag) place (now (s .entry))) at r (now (words .entry)) (now (words .exit)) ⌝ }
 {
     let c = at.c;
-    let n = emit(words, at.n, tag, 0, place, 0);
+    let n = emit(words, at.n, tag, 0, place, 0, c.at);
     let behind = Step { c: c, n: n };
     let qualifier = number(words, behind, s, AE_QUALIFIER, tags::AE_QUALIFIER);
     let version = number(words, qualifier, s, AP_VERSION, tags::AP_VERSION);

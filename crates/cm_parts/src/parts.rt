@@ -40,7 +40,7 @@ pub fn number(words: &mut [u64], at: Step, s: &[u8], range: Range, tag: u64) -> 
 {
     let g = ranged(s, at.c, range);
     let c = g.c;
-    let n = emit(words, at.n, tag, 0, g.v, 0);
+    let n = emit(words, at.n, tag, 0, g.v, 0, at.c.at);
     Step { c: c, n: n }
 }
 
