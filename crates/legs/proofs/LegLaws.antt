@@ -51,31 +51,31 @@ abbrev alts : Alts
 alts = message.published ∥ message.latlon ∥ many 2 2 bearing ∥ ranging ∥ message.ia5 101 2 7 ∥ none-left
 
 module _ {s : List ℕ} {c d : Cursor} (g : Got) (p : Pulls s c 3 g) where
-  pub leg-place : (v : Published) → g .v ≡ 0 → Takes message.published s (g .c) d (publishedRecs s v) → Takes routeInformation s c d (legRecs s (Place v))
+  pub leg-place : (v : Published) → g .v ≡ 0 → Takes message.published s (g .c) d (publishedRecs s v) → Takes routeInformation s c d (legRecs s (c .at) (Place v))
   unfolding legRecs readChoice width widthIn encoding.highest count
   leg-place v z h = takes-index 97 alts 0 _ g p z (λ x u q. refl) h
 
-  pub leg-coordinates : (v : Pair) → g .v ≡ 1 → Takes message.latlon s (g .c) d (pairRecs v) → Takes routeInformation s c d (legRecs s (Coordinates v))
+  pub leg-coordinates : (v : Pair) → g .v ≡ 1 → Takes message.latlon s (g .c) d (pairRecs v) → Takes routeInformation s c d (legRecs s (c .at) (Coordinates v))
   unfolding legRecs readChoice width widthIn encoding.highest count
   leg-coordinates v z h = takes-index 97 alts 1 _ g p z (λ x u q. refl) h
 
-  pub leg-between : {e : Cursor} (v w : Bearing) → g .v ≡ 2 → Takes bearing s (g .c) e (bearingRecs s v) → Takes bearing s e d (bearingRecs s w) → Takes routeInformation s c d (legRecs s (Between v w))
+  pub leg-between : {e : Cursor} (v w : Bearing) → g .v ≡ 2 → Takes bearing s (g .c) e (bearingRecs s v) → Takes bearing s e d (bearingRecs s w) → Takes routeInformation s c d (legRecs s (c .at) (Between v w))
   unfolding legRecs readChoice width widthIn encoding.highest count
   leg-between {e} v w z h y =
       takes-index 97 alts 2 (many 2 2 bearing) g p z (λ x u q. refl)
       (let t : Takes (many 2 2 bearing) s (g .c) d (λ n. bearingRecs s v n ++ (bearingRecs s w n ++ [])) = takes-times 2 (times-more h (times-more y times-none)) in
       record { took = λ x. rw (append-nil (bearingRecs s w (x .0))) at (t .took x) })
 
-  pub leg-ranging : g .v ≡ 3 → Rangings s (g .c) d → Takes routeInformation s c d (legRecs s Unread)
+  pub leg-ranging : g .v ≡ 3 → Rangings s (g .c) d → Takes routeInformation s c d (legRecs s (c .at) Unread)
   unfolding readChoice width widthIn encoding.highest count
-  leg-ranging z h = takes-any (legRecs s Unread) (h .stops) (takes-index 97 alts 3 ranging g p z (λ x u q. refl) (h .reads (λ n. [])))
+  leg-ranging z h = takes-any (legRecs s (c .at) Unread) (h .stops) (takes-index 97 alts 3 ranging g p z (λ x u q. refl) (h .reads (λ n. [])))
 
-  pub leg-designator : (v : Text) → g .v ≡ 4 → Takes (message.ia5 101 2 7) s (g .c) d (λ n. textRecs 101 n s v) → Takes routeInformation s c d (legRecs s (Designator v))
+  pub leg-designator : (v : Text) → g .v ≡ 4 → Takes (message.ia5 101 2 7) s (g .c) d (λ n. textRecs 101 n s v) → Takes routeInformation s c d (legRecs s (c .at) (Designator v))
   unfolding legRecs readChoice width widthIn encoding.highest count
   leg-designator v z h = takes-index 97 alts 4 _ g p z (λ x u q. refl) h
 
   -- any other index is not listed
-  pub leg-unlisted : (g .v ≡ 0 → ⊥) → (g .v ≡ 1 → ⊥) → (g .v ≡ 2 → ⊥) → (g .v ≡ 3 → ⊥) → (g .v ≡ 4 → ⊥) → d ≡ stopped (g .c) 5 1 → Takes routeInformation s c d (legRecs s Unread)
+  pub leg-unlisted : (g .v ≡ 0 → ⊥) → (g .v ≡ 1 → ⊥) → (g .v ≡ 2 → ⊥) → (g .v ≡ 3 → ⊥) → (g .v ≡ 4 → ⊥) → d ≡ stopped (g .c) 5 1 → Takes routeInformation s c d (legRecs s (c .at) Unread)
   unfolding readChoice mark width widthIn encoding.highest count
   leg-unlisted z₀ z₁ z₂ z₃ z₄ q = takes-unlisted 97 alts g p (λ x u r. go (g .v) x u r z₀ z₁ z₂ z₃ z₄) q
     where

@@ -33,13 +33,13 @@ routeInformation = choice tag.route-information (message.published ∥ message.l
 unfoldable pub bearingRecs : List ℕ → Bearing → ℕ → List Rec
 bearingRecs s v n = publishedRecs s (v .place) n ++ quantityRecs tag.degrees tag.degrees-number (v .degrees) n
 
--- what cannot be read has no records
-unfoldable pub legRecs : List ℕ → Leg → ℕ → List Rec
-legRecs s (Place v) n = rec tag.route-information n 0 0 ∷ publishedRecs s v n
-legRecs s (Coordinates v) n = rec tag.route-information n 1 0 ∷ pairRecs v n
-legRecs s (Between v w) n = rec tag.route-information n 2 0 ∷ (bearingRecs s v n ++ bearingRecs s w n)
-legRecs s (Designator v) n = rec tag.route-information n 4 0 ∷ textRecs tag.route-designator n s v
-legRecs s Unread n = []
+-- by the place where the leg starts, which is its index's; what cannot be read has no records
+unfoldable pub legRecs : List ℕ → ℕ → Leg → ℕ → List Rec
+legRecs s at (Place v) n = rec tag.route-information n 0 0 at ∷ publishedRecs s v n
+legRecs s at (Coordinates v) n = rec tag.route-information n 1 0 at ∷ pairRecs v n
+legRecs s at (Between v w) n = rec tag.route-information n 2 0 at ∷ (bearingRecs s v n ++ bearingRecs s w n)
+legRecs s at (Designator v) n = rec tag.route-information n 4 0 at ∷ textRecs tag.route-designator n s v
+legRecs s at Unread n = []
 
 -- its texts can be told
 unfoldable pub HeldLeg : List ℕ → Leg → Type 0
@@ -59,5 +59,5 @@ pub record Rangings (s : List ℕ) (c d : Cursor) : Type 0 where
   pub stops : d .why ≡ 0 → ⊥
 
 pub record Legs (s : List ℕ) (c : Cursor) (r : LegAt) : Type 0 where
-  pub reads : Takes routeInformation s c (r .c) (legRecs s (r .leg))
+  pub reads : Takes routeInformation s c (r .c) (legRecs s (c .at) (r .leg))
   pub held : HeldLeg s (r .leg)
