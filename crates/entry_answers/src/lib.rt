@@ -67,24 +67,25 @@ fn records(space: &mut [u8], o: Output, words: &[u64], count: usize) -> Output
     let mut at = 0;
     let mut left = count;
     while 0 < left {
-        if words.len() - at < 4 {
+        if words.len() - at < 5 {
             return o;
         }
         o = record(space, o, words, at);
-        at += 4;
+        at += 5;
         left -= 1;
     }
     o
 }
 
 fn record(space: &mut [u8], o: Output, words: &[u64], at: usize) -> Output
-    requires { ⌜ (o .len ≤ length (now space)) × (at + 4 ≤ length (now words)) ⌝ }
+    requires { ⌜ (o .len ≤ length (now space)) × (at + 5 ≤ length (now words)) ⌝ }
     ensures { λ r. ⌜ r .len ≤ length (now (space .entry)) ⌝ }
 {
     let o = labelled(space, o, b";", words[at]);
     let o = labelled(space, o, b",", words[at + 1]);
     let o = labelled(space, o, b",", words[at + 2]);
-    labelled(space, o, b",", words[at + 3])
+    let o = labelled(space, o, b",", words[at + 3]);
+    labelled(space, o, b",", words[at + 4])
 }
 
 fn end(space: &mut [u8], o: Output, clean: bool) -> Output

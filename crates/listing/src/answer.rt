@@ -8,7 +8,7 @@ use answers::Answer;
 // The most records that are printed.
 const RECORDS: usize = 32;
 
-pub fn put_answer(line: &mut [u8; 1024], n: usize, words: &[u64; 128], answer: Answer) -> usize {
+pub fn put_answer(line: &mut [u8; 1024], n: usize, words: &[u64; 160], answer: Answer) -> usize {
     match answer {
         Answer::Accepted {
             cut,
@@ -51,8 +51,8 @@ fn put_end(line: &mut [u8; 1024], n: usize, cut: bool) -> usize {
     }
 }
 
-// Each record as `;tag,element,value,second`.
-pub fn put_records(line: &mut [u8; 1024], n: usize, words: &[u64; 128], count: usize) -> usize {
+// Each record as `;tag,element,value,second,place`.
+pub fn put_records(line: &mut [u8; 1024], n: usize, words: &[u64; 160], count: usize) -> usize {
     let mut m = n;
     let mut i = 0;
     while i < RECORDS {
@@ -64,10 +64,10 @@ pub fn put_records(line: &mut [u8; 1024], n: usize, words: &[u64; 128], count: u
     m
 }
 
-fn put_record(line: &mut [u8; 1024], n: usize, words: &[u64; 128], i: usize) -> usize
+fn put_record(line: &mut [u8; 1024], n: usize, words: &[u64; 160], i: usize) -> usize
     requires { ⌜ i < 32 ⌝ }
 {
-    let at = i * 4;
+    let at = i * 5;
     let mut m = put(line, n, b';');
     m = put_decimal(line, m, words[at]);
     m = put(line, m, b',');
@@ -75,5 +75,7 @@ fn put_record(line: &mut [u8; 1024], n: usize, words: &[u64; 128], i: usize) -> 
     m = put(line, m, b',');
     m = put_decimal(line, m, words[at + 2]);
     m = put(line, m, b',');
-    put_decimal(line, m, words[at + 3])
+    m = put_decimal(line, m, words[at + 3]);
+    m = put(line, m, b',');
+    put_decimal(line, m, words[at + 4])
 }

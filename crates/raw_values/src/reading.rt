@@ -23,7 +23,7 @@ pub fn put_reading(line: &mut [u8; 1024], s: &[u8; 48], byte: u8, place: usize, 
     if end.why != 0 {
         return put_refused(line, end);
     }
-    let mut words = [0u64; 128];
+    let mut words = [0u64; 160];
     let count = tell_argument(&mut words, 0, 1, s, argument);
     if place <= count {
         less_raw(&mut words, place, raw);
@@ -35,14 +35,14 @@ pub fn put_reading(line: &mut [u8; 1024], s: &[u8; 48], byte: u8, place: usize, 
     put_records(line, n, &words, count)
 }
 
-fn less_raw(words: &mut [u64; 128], place: usize, raw: u64) {
+fn less_raw(words: &mut [u64; 160], place: usize, raw: u64) {
     if place == 0 {
         return;
     }
     if 32 < place {
         return;
     }
-    let at = place * 4 - 2;
+    let at = place * 5 - 3;
     words[at] = wrapping_sub_u64(words[at], raw);
 }
 

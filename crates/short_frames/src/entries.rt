@@ -23,12 +23,12 @@ pub fn put_entry(line: &mut [u8; 1024], n: usize, entry: u64) -> usize {
 
 // The answer's text, at the front of the line.
 pub fn ask(line: &mut [u8; 1024], entry: u64, frame: &[u8]) -> usize {
-    let mut words = [0u64; 128];
+    let mut words = [0u64; 160];
     let answer = parse(entry, frame, &mut words);
     put_answer(line, 0, &words, answer)
 }
 
-fn parse(entry: u64, frame: &[u8], words: &mut [u64; 128]) -> Answer {
+fn parse(entry: u64, frame: &[u8], words: &mut [u64; 160]) -> Answer {
     if entry == CM_GROUND {
         return parse_cm(frame, 1, words);
     }

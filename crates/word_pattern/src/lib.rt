@@ -19,12 +19,12 @@ pub fn fill(words: &mut [u64])
 
 // Whether the words behind the records are as they were; they are not where the records would need more words than there are.
 pub fn stayed(words: &[u64], records: usize) -> bool
-    ensures { λ r. ⌜ (r ≡ true → (records * 4 ≤ length (now (words .entry))) × Patterned (now (words .entry)) (records * 4)) × (records * 4 ≤ length (now (words .entry)) → Patterned (now (words .entry)) (records * 4) → r ≡ true) ⌝ }
+    ensures { λ r. ⌜ (r ≡ true → (records * 5 ≤ length (now (words .entry))) × Patterned (now (words .entry)) (records * 5)) × (records * 5 ≤ length (now (words .entry)) → Patterned (now (words .entry)) (records * 5) → r ≡ true) ⌝ }
 {
-    if words.len() / 4 < records {
+    if words.len() / 5 < records {
         return false;
     }
-    let mut i = records * 4;
+    let mut i = records * 5;
     while i < words.len() {
         if words[i] != FIRST + i as u64 {
             return false;

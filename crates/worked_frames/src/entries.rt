@@ -4,19 +4,19 @@ use acse::parse_acse_apdu;
 use cm::parse_cm;
 
 pub fn cm_ground(frame: &[u8]) {
-    let mut words = [0u64; 128];
+    let mut words = [0u64; 160];
     let answer = parse_cm(frame, 1, &mut words);
     print(b"cm 1", frame, &words, answer);
 }
 
 pub fn cm_logon(frame: &[u8]) {
-    let mut words = [0u64; 128];
+    let mut words = [0u64; 160];
     let answer = parse_cm(frame, 0, &mut words);
     print(b"cm 0", frame, &words, answer);
 }
 
 pub fn acse(frame: &[u8]) {
-    let mut words = [0u64; 128];
+    let mut words = [0u64; 160];
     let answer = parse_acse_apdu(frame, &mut words);
     print(b"acse", frame, &words, answer);
 }

@@ -6,7 +6,7 @@ use cm::parse_cm;
 // 65,536 bytes, of which the first is printed.
 pub fn longest() {
     let frame = [0u8; 65536];
-    let mut words = [0u64; 128];
+    let mut words = [0u64; 160];
     let ground = parse_cm(&frame, 1, &mut words);
     print(
         b"cm 1, 65536 bytes that begin with",
@@ -26,7 +26,7 @@ pub fn longest() {
 // 65,537 bytes, of which the first is printed.
 pub fn too_long() {
     let frame = [0u8; 65537];
-    let mut words = [0u64; 128];
+    let mut words = [0u64; 160];
     let ground = parse_cm(&frame, 1, &mut words);
     print(
         b"cm 1, 65537 bytes that begin with",
@@ -50,20 +50,20 @@ pub fn too_long() {
     );
 }
 
-// Three words are lent: a record has four.
+// Four words are lent: a record has five.
 pub fn no_room() {
-    acse_in_three(&[0x80]);
-    cm_logon_in_three(&[0x40]);
+    acse_in_four(&[0x80]);
+    cm_logon_in_four(&[0x40]);
 }
 
-fn acse_in_three(frame: &[u8]) {
-    let mut words = [0u64; 128];
-    let answer = parse_acse_apdu(frame, &mut words[..3]);
-    print(b"acse, three words,", frame, &words, answer);
+fn acse_in_four(frame: &[u8]) {
+    let mut words = [0u64; 160];
+    let answer = parse_acse_apdu(frame, &mut words[..4]);
+    print(b"acse, four words,", frame, &words, answer);
 }
 
-fn cm_logon_in_three(frame: &[u8]) {
-    let mut words = [0u64; 128];
-    let answer = parse_cm(frame, 0, &mut words[..3]);
-    print(b"cm 0, three words,", frame, &words, answer);
+fn cm_logon_in_four(frame: &[u8]) {
+    let mut words = [0u64; 160];
+    let answer = parse_cm(frame, 0, &mut words[..4]);
+    print(b"cm 0, four words,", frame, &words, answer);
 }

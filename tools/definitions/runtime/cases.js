@@ -38,8 +38,8 @@ function shown(outcome, room) {
   const { name, parts } = opened(force(outcome[0]));
   const words = listed(outcome[1]);
   const count = name === 'accepted' ? parts[3] : 0;
-  const stayed = words.length === room && words.every((word, place) => place < 4 * count || word === before(place));
-  return said(name, parts, words.slice(0, 4 * count)) + (stayed ? '' : ' dirty');
+  const stayed = words.length === room && words.every((word, place) => place < 5 * count || word === before(place));
+  return said(name, parts, words.slice(0, 5 * count)) + (stayed ? '' : ' dirty');
 }
 
 function said(name, parts, words) {
@@ -49,7 +49,7 @@ function said(name, parts, words) {
   }
   const [cut, reach, marks, count] = parts;
   let text = `ok ${cut ? 'cut' : 'whole'} ${reach} ${marks} ${count}`;
-  for (let at = 0; at < words.length; at += 4) text += ';' + words.slice(at, at + 4).join(',');
+  for (let at = 0; at < words.length; at += 5) text += ';' + words.slice(at, at + 5).join(',');
   return text;
 }
 

@@ -23,6 +23,7 @@ class Along:
     def __init__(self, frame, watched):
         head, strings, numbers = watched.split(";")
         self.frame_bits = self.left = len(frame) * 8
+        self.at = 0  # the place of the next bit in the frame, inside an inner bit string too
         self.strings = [tuple(map(int, text.split("+"))) for text in reversed(strings.split())]
         self.numbers = [tuple(map(int, text.split(":"))) for text in reversed(numbers.split())]
         self.marks = {mark for mark in range(1, 8) if int(head.split()[2]) >> (mark - 1) & 1}
@@ -37,6 +38,7 @@ class Along:
         if not self.numbers or self.numbers[-1][0] != bits:
             raise SystemExit(f"{bits} bits expected, the Rust read {self.numbers[-1:]}")
         self.left -= bits
+        self.at += bits
         return self.numbers.pop()[1]
 
     def ranged(self, lowest, highest):
@@ -46,9 +48,10 @@ class Along:
         """A string of the frame's own level; returns its first bit."""
         if bits > self.left:
             raise Ended
-        if not self.strings or self.strings[-1] != (self.frame_bits - self.left, bits):
+        if not self.strings or self.strings[-1] != (self.at, bits):
             raise SystemExit(f"a string of {bits} bits expected, the Rust took {self.strings[-1:]}")
         self.left -= bits
+        self.at += bits
         return self.strings.pop()[0]
 
     def length(self):
@@ -65,14 +68,15 @@ class Along:
     @contextmanager
     def inner(self, bits):
         """Reads within an inner bit string. Its end is not the frame's."""
-        self.string(bits)
-        outside, self.left = self.left, bits
+        first = self.string(bits)
+        outside, self.left = (self.left, self.at), bits
+        self.at = first
         try:
             yield
         except Ended:
             raise Bad from None
         finally:
-            self.left = outside
+            self.left, self.at = outside
 
     def done(self):
         """Nothing that the Rust read may be left; returns end and reach."""
@@ -82,31 +86,37 @@ class Along:
 
     # What is told of it.
 
-    def say(self, tag, value, second=0):
-        self.records.append((tag, self.element, value % 2**64, second))
+    def say(self, tag, value, second=0, place=None):
+        """A record. Its field starts at `place`; one without bits of its own has the place where the reads stand."""
+        self.records.append((tag, self.element, value % 2**64, second, self.at if place is None else place))
 
     def number(self, tag, lowest, highest):
+        place = self.at
         value = self.ranged(lowest, highest)
-        self.say(tag, value)
+        self.say(tag, value, 0, place)
         return value
 
-    def span(self, tag, bits):
-        self.say(tag, self.string(bits), bits)
+    def span(self, tag, bits, place=None):
+        """A span; its field starts at its length, if that has bits."""
+        place = self.at if place is None else place
+        self.say(tag, self.string(bits), bits, place)
 
-    def characters(self, tag, octets):
+    def characters(self, tag, octets, place):
         for at in range(0, len(octets), 8):
-            self.say(tag, int.from_bytes(bytes(octets[at : at + 8]).ljust(8, b"\0"), "big"), len(octets))
+            self.say(tag, int.from_bytes(bytes(octets[at : at + 8]).ljust(8, b"\0"), "big"), len(octets), place)
 
     def text(self, tag, fewest, most):
-        self.characters(tag, [self.take(7) for _ in range(self.ranged(fewest, most))])
+        place = self.at
+        self.characters(tag, [self.take(7) for _ in range(self.ranged(fewest, most))], place)
 
     def index(self, tag, bits, listed):
         """An index that is read as a number of bits. One outside its list: the part is given up, with 01's mark 1."""
+        place = self.at
         value = self.take(bits)
         if value >= listed:
             self.marks.add(1)
             raise Bad
-        self.say(tag, value)
+        self.say(tag, value, 0, place)
         return value
 
     def extended(self, tag):

@@ -15,10 +15,10 @@ def answer(case, oracle, watched):
         end, reach, _ = watched.split()
         return f"no {end} {reach}"
     end, reach, marks, records = retold(case, given(oracle), watched)
-    need = len(records) * 4
+    need = len(records) * 5
     if need > case.room:
         return f"no 7 {reach} {need}"
-    line = f"ok {end} {reach} {marks} {len(records)}" + "".join(";%d,%d,%d,%d" % record for record in records)
+    line = f"ok {end} {reach} {marks} {len(records)}" + "".join(";%d,%d,%d,%d,%d" % record for record in records)
     fault = difference(case, oracle, Answer.of(line), watched)
     if fault:
         raise SystemExit(f"retold otherwise: {fault}\n{case}\n{oracle}\n{line}")

@@ -40,11 +40,12 @@ def clearances(reads):
 
 def element(reads, table):
     """An element; whether its argument could be read."""
+    place = reads.at
     index = reads.take(width(0, len(table) - 1))
     if index >= len(table):
         reads.marks.add(1)
         raise Bad
-    reads.say(tag.ELEMENT_INDEX, index)
+    reads.say(tag.ELEMENT_INDEX, index, 0, place)
     if table[index] == 0:
         return True
     try:
@@ -99,10 +100,11 @@ def protected_message(reads, table):
     else:
         reads.say(tag.EMPTY, 1)
     try:
+        place = reads.at
         bits = reads.length()
         first = reads.string(bits)
         if bits:
-            reads.say(tag.INTEGRITY_CHECK, first, bits)
+            reads.say(tag.INTEGRITY_CHECK, first, bits, place)
     except Ended:
         reads.cut = True
     except Bad:
@@ -140,11 +142,12 @@ def pdus(reads, given, down, up):
     uplink = ["downlink", "uplink"].index(given["direction"])
     reads.say(tag.DIRECTION, uplink)
     if reads.extended(tag.PDU):
+        place = reads.at
         if reads.take(1):
             reads.string(reads.length() * 8)
         else:
             reads.take(6)
-        reads.say(tag.EXTENSION_INDEX, given["extension_index"])
+        reads.say(tag.EXTENSION_INDEX, given["extension_index"], 0, place)
         return
     kind = reads.number(tag.PDU, 0, 5 if uplink else 3)
     if kind == 0:
@@ -174,7 +177,8 @@ def logon_request(reads):
     reads.span(tag.RDP, 40)
     if reads.take(1):
         reads.span(tag.ARS, 24)
-    reads.span(tag.LOC_SYS_NSEL_TSEL, reads.ranged(10, 11) * 8)
+    place = reads.at
+    reads.span(tag.LOC_SYS_NSEL_TSEL, reads.ranged(10, 11) * 8, place)
     if air_only:
         applications(reads, tag.AIR_ONLY_INITIATED)
     if departure:

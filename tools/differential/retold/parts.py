@@ -26,8 +26,8 @@ def angle(reads, first, thousandths, degrees):
 
 
 def coordinates(reads):
-    latitude, longitude = reads.take(1), reads.take(1)
     reads.say(tag.COORDINATES, 0)
+    latitude, longitude = reads.take(1), reads.take(1)
     if latitude:
         angle(reads, tag.LATITUDE, 90000, 89)
     if longitude:
@@ -71,14 +71,14 @@ def frequency(reads):
     if kind < 3:
         reads.number(tag.FREQUENCY_NUMBER, *FREQUENCIES[kind])
         return
-    raws = []
+    raws, place = [], reads.at
     for _ in range(12):
         raws.append(reads.take(4))
         if raws[-1] > 10:
             reads.marks.add(1)  # by 02's words, d); the Rust shows the next characters
-    reads.characters(tag.SATELLITE_CHANNEL, [ord("0") + raw for raw in raws])
+    reads.characters(tag.SATELLITE_CHANNEL, [ord("0") + raw for raw in raws], place)
     if max(raws) <= 10:
-        reads.characters(tag.SATELLITE_CHANNEL_X691, [b" 0123456789"[raw] for raw in raws])
+        reads.characters(tag.SATELLITE_CHANNEL_X691, [b" 0123456789"[raw] for raw in raws], place)
 
 
 def code(reads):

@@ -33,7 +33,7 @@ def given(oracle):
 def record_faults(case, oracle, ours):
     if ours.count != len(ours.records):
         return f"{ours.count} records announced, {len(ours.records)} given"
-    if ours.count * 4 > case.room:
+    if ours.count * 5 > case.room:
         return "more words than lent"
     try:
         shown = told(case, ours.records)
@@ -69,7 +69,7 @@ def difference(case, oracle, ours, watched=None):
         return f"{ours.end}, the Rust: {oracle.split()[0]}"
     if ours.reach > len(case.frame) * 8:
         return "reach beyond the frame"
-    if ours.end == "7" and (ours.need <= case.room or ours.need % 4):
+    if ours.end == "7" and (ours.need <= case.room or ours.need % 5):
         return f"need {ours.need} with room {case.room}"
     if ours.accepted():
         fault = record_faults(case, oracle, ours)

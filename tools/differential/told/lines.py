@@ -33,13 +33,13 @@ class Case:
 
 
 def record_of(text):
-    tag, element, value, second = text.split(",")
-    return int(tag), int(element), int(value), int(second)
+    tag, element, value, second, place = text.split(",")
+    return int(tag), int(element), int(value), int(second), int(place)
 
 
 @dataclass
 class Answer:
-    """`ok whole|cut REACH MARKS COUNT;tag,element,value,second;...` or `no NUMBER REACH`, and after it the need for 7, the bits lacked for 4.
+    """`ok whole|cut REACH MARKS COUNT;tag,element,value,second,place;...` or `no NUMBER REACH`, and after it the need for 7, the bits lacked for 4.
 
     The Rust does not say how many bits were lacked, so that a line made from its answers has no such number.
 

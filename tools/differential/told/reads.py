@@ -75,7 +75,7 @@ def text_reads(t, value, length, left):
 def numbers(case, records):
     """The reads behind the records, of those that have one of their own: lists of reads that follow each other, None for any."""
     tables, left, index, name = [case.down, case.up], 0, 0, []
-    for t, _, value, second in records:
+    for t, _, value, second, _ in records:
         if t == tag.DIRECTION:
             uplink = value
             table = tables[uplink]
@@ -117,7 +117,7 @@ def in_order(few, many):
 
 def read_faults(case, records, strings, reads):
     """None, or what the Rust did not read; `strings` and `reads` are those that it took."""
-    spans = [[f"{value}+{second}"] for t, _, value, second in records if t in SPANS]
+    spans = [[f"{value}+{second}"] for t, _, value, second, _ in records if t in SPANS]
     if not in_order(spans, strings.split()):
         return f"spans {spans}, the Rust took{strings}"
     wanted = list(numbers(case, records))

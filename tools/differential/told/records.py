@@ -6,7 +6,7 @@ class Misfit(Exception):
 
 
 class Records:
-    """Records (tag, element, value, second) of one frame. `element` is the number that the next ones must carry."""
+    """Records (tag, element, value, second, place) of one frame. `element` is the number that the next ones must carry."""
 
     def __init__(self, records, frame):
         self.records = records
@@ -21,7 +21,7 @@ class Records:
         """The value and the second number of the next record, which must have this tag."""
         if not self.next_is(tag):
             raise Misfit(f"record {self.at + 1}: tag {tag} expected")
-        _, element, value, second = self.records[self.at]
+        _, element, value, second, _ = self.records[self.at]
         if element != self.element:
             raise Misfit(f"record {self.at + 1}: element {element}, not {self.element}")
         if not (0 <= value < 2**64 and 0 <= second < 2**64):

@@ -9,7 +9,7 @@ use Rattle.word_pattern.proofs.stayed.Statement.{statement}
 use Rattle.word_pattern.proofs.stayed.Tie as tie
 
 abbrev Inv-loop : tie.InvT-loop
-Inv-loop words records i₀ i = (records * 4 ≤ i) × (records * 4 ≤ length words) × Between words (records * 4) i
+Inv-loop words records i₀ i = (records * 5 ≤ i) × (records * 5 ≤ length words) × Between words (records * 5) i
 
 abbrev μ-loop : tie.MeasureT-loop
 μ-loop words records i₀ i = length words - i
