@@ -77,15 +77,23 @@ fn records(space: &mut [u8], o: Output, words: &[u64], count: usize) -> Output
     o
 }
 
+// The four numbers of a record, and where its field began.
 fn record(space: &mut [u8], o: Output, words: &[u64], at: usize) -> Output
     requires { ⌜ (o .len ≤ length (now space)) × (at + 5 ≤ length (now words)) ⌝ }
+    ensures { λ r. ⌜ r .len ≤ length (now (space .entry)) ⌝ }
+{
+    let o = numbers(space, o, words, at);
+    labelled(space, o, b",", words[at + 4])
+}
+
+fn numbers(space: &mut [u8], o: Output, words: &[u64], at: usize) -> Output
+    requires { ⌜ (o .len ≤ length (now space)) × (at + 4 ≤ length (now words)) ⌝ }
     ensures { λ r. ⌜ r .len ≤ length (now (space .entry)) ⌝ }
 {
     let o = labelled(space, o, b";", words[at]);
     let o = labelled(space, o, b",", words[at + 1]);
     let o = labelled(space, o, b",", words[at + 2]);
-    let o = labelled(space, o, b",", words[at + 3]);
-    labelled(space, o, b",", words[at + 4])
+    labelled(space, o, b",", words[at + 3])
 }
 
 fn end(space: &mut [u8], o: Output, clean: bool) -> Output
