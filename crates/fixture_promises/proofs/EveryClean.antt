@@ -41,9 +41,9 @@ few-fit : (R : List Rec) (s : List ℕ) → length R ≤ 8324 → frame-fits s �
 unfolding list-fits frame-fits
 few-fit R s h f =
     let l : length s ≤ 65536 = leb-true (length s) 65536 f in
-    let a : length (flat R) % 4 ≡ 0 = omega (arith, flat-length R) in
-    let b : length (flat R) / 4 < 4294967296 = omega (arith, flat-length R) in
-    rw (eq-eqb (length (flat R) % 4) 0 a, lt-ltb (length (flat R) / 4) 4294967296 b, lt-ltb (length s) 72057594037927936 (omega arith))
+    let a : length (flat R) % 5 ≡ 0 = omega (arith, flat-length R) in
+    let b : length (flat R) / 5 < 4294967296 = omega (arith, flat-length R) in
+    rw (eq-eqb (length (flat R) % 5) 0 a, lt-ltb (length (flat R) / 5) 4294967296 b, lt-ltb (length s) 72057594037927936 (omega arith))
 
 -- "Every clean record list that such an entry got from a frame .. is accepted, and gives that frame's bits up to the reach"
 pub clean-again : (k d : ℕ) (down up s out : List ℕ) (f : Fmt) (p : ℕ) (R : List Rec) → kindOf k d down up ≡ some f → table-fits down && table-fits up ≡ true → direction-fits d ≡ true → frame-fits s ≡ true

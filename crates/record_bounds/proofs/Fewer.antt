@@ -29,30 +29,30 @@ unfolding spaced
 length-spaced [] = refl
 length-spaced (u ∷ us) = ap suc (length-spaced us)
 
-length-packs : (t m n k : ℕ) (cs : List ℕ) → length (packs t m n k cs) ≡ k
+length-packs : (t m q n k : ℕ) (cs : List ℕ) → length (packs t m q n k cs) ≡ k
 unfolding packs
-length-packs t m n zero cs = refl
-length-packs t m n (suc k) cs = ap suc (length-packs t m n k (drop 8 cs))
+length-packs t m q n zero cs = refl
+length-packs t m q n (suc k) cs = ap suc (length-packs t m q n k (drop 8 cs))
 
-pack-few : (t m hi : ℕ) (cs : List ℕ) → length cs ≤ hi → length (pack t m cs) ≤ (hi + 7) / 8
+pack-few : (t m q hi : ℕ) (cs : List ℕ) → length cs ≤ hi → length (pack t m q cs) ≤ (hi + 7) / 8
 unfolding pack
-pack-few t m hi cs h = let k = length-packs t m (length cs) ((length cs + 7) / 8) cs in omega arith
+pack-few t m q hi cs h = let k = length-packs t m q (length cs) ((length cs + 7) / 8) cs in omega arith
 
-letters-few : (t m hi : ℕ) (c : Letters) (us : List ℕ) → length us ≤ hi → length (lettered t c m us) ≤ texts c * ((hi + 7) / 8)
-letters-few t m hi (first c) us h = omega (arith, pack-few t m hi (coded c us) (omega (arith, length-coded c us)))
-letters-few t m hi (numeric v) us h =
-    let a = pack-few t m hi (coded 48 us) (omega (arith, length-coded 48 us)) in
-    let b = pack-few v m hi (spaced us) (omega (arith, length-spaced us)) in
+letters-few : (t m q hi : ℕ) (c : Letters) (us : List ℕ) → length us ≤ hi → length (lettered t c m q us) ≤ texts c * ((hi + 7) / 8)
+letters-few t m q hi (first c) us h = omega (arith, pack-few t m q hi (coded c us) (omega (arith, length-coded c us)))
+letters-few t m q hi (numeric v) us h =
+    let a = pack-few t m q hi (coded 48 us) (omega (arith, length-coded 48 us)) in
+    let b = pack-few v m q hi (spaced us) (omega (arith, length-spaced us)) in
     go (noneAbove 10 us) a b
   where
-    go : (x : Bool) → length (pack t m (coded 48 us)) ≤ (hi + 7) / 8 → length (pack v m (spaced us)) ≤ (hi + 7) / 8 → length (pack t m (coded 48 us) ++ cond x (pack v m (spaced us)) []) ≤ 2 * ((hi + 7) / 8)
-    go true a b = omega (arith, length-append (pack t m (coded 48 us)) (pack v m (spaced us)))
-    go false a b = omega (arith, length-append (pack t m (coded 48 us)) [])
+    go : (x : Bool) → length (pack t m q (coded 48 us)) ≤ (hi + 7) / 8 → length (pack v m q (spaced us)) ≤ (hi + 7) / 8 → length (pack t m q (coded 48 us) ++ cond x (pack v m q (spaced us)) []) ≤ 2 * ((hi + 7) / 8)
+    go true a b = omega (arith, length-append (pack t m q (coded 48 us)) (pack v m q (spaced us)))
+    go false a b = omega (arith, length-append (pack t m q (coded 48 us)) [])
 
-span-few : (t m q n : ℕ) → length (spanned t m q n) ≤ 1
+span-few : (t m at q n : ℕ) → length (spanned t m at q n) ≤ 1
 unfolding spanned
-span-few t m q zero = omega arith
-span-few t m q (suc n) = omega arith
+span-few t m at q zero = omega arith
+span-few t m at q (suc n) = omega arith
 
 any-few : {A : Type 0} (h : A → List Rec) (P : A → Type 0) (Z : List Rec) (k : ℕ) → length Z ≤ k → ((a : A) → P a → length (h a) ≤ k) → (o : Option A) → IfAny P o → length (tellAny h Z o) ≤ k
 unfolding tellAny
@@ -75,9 +75,9 @@ mutual
   fewer (num t lo hi) v x at g = omega arith
   fewer (listed t hi xs) v x at g = omega arith
   fewer (name t hi) v x at g = omega arith
-  fewer (text t n c lo hi) v x at g = letters-few t (x .0) hi c v (g .1)
-  fewer (span t w lo hi) v x at g = span-few t (x .0) _ _
-  fewer (anySpan t w) v x at g = span-few t (x .0) _ _
+  fewer (text t n c lo hi) v x at g = letters-few t (x .0) at hi c v (g .1)
+  fewer (span t w lo hi) v x at g = span-few t (x .0) at _ _
+  fewer (anySpan t w) v x at g = span-few t (x .0) at _ _
   fewer (skipped m) v x at g = absurd v
   fewer (small m t) v x at g = absurd v
   fewer null v x at g = omega arith
@@ -109,7 +109,7 @@ mutual
       omega (arith, length-append (tellAny (λ v. tell f v x at) [] (vs .0)) (tellFields fs (vs .1) x q), one, fewerFields fs (vs .1) x q (g .1))
   fewerFields (orNote t y s f fs) vs x at g =
       let q : ℕ = at + length (ifAny (λ v. encode (typeOf f) v) (vs .0)) in
-      let note : List Rec = rec t (x .0) y s ∷ [] in
+      let note : List Rec = rec t (x .0) y s at ∷ [] in
       let one = any-few (λ v. tell f v x at) (λ v. InRange (typeOf f) v) note (max 1 (most f)) (omega arith) (λ v h. omega (arith, fewer f v x at h)) (vs .0) (g .0) in
       omega (arith, length-append (tellAny (λ v. tell f v x at) note (vs .0)) (tellFields fs (vs .1) x q), one, fewerFields fs (vs .1) x q (g .1))
   fewerFields (unread t fs) vs x at g = fewerFields fs (vs .1) x at (g .1)

@@ -55,43 +55,43 @@ module _ (sp : ℕ → Bool) (b : ℕ → ℕ) (e : ℕ) where
   look-join : (R U : List Rec) → look sp b (R ++ U) ≡ look sp b R ++ look sp b U
   unfolding look
   look-join [] U = refl
-  look-join (rec t m v s ∷ R) U = rw (look-join R U)
+  look-join (rec t m v s q ∷ R) U = rw (look-join R U)
 
   inside-join : (R U : List Rec) → inside sp e R ≡ true → inside sp e U ≡ true → inside sp e (R ++ U) ≡ true
   unfolding inside
   inside-join [] U x y = y
-  inside-join (rec t m v s ∷ R) U x y =
+  inside-join (rec t m v s q ∷ R) U x y =
       let c = both (not (sp t) || leb (v + s) e) (inside sp e R) x in
       rw (c .0) (inside-join R U (c .1) y)
 
   seen-join : {R U : List Rec} {S T : List Item} → See R S → See U T → See (R ++ U) (S ++ T)
   seen-join {R} {U} x y = record { looks = look-join R U ∙ rw (x .looks, y .looks); within = inside-join R U (x .within) (y .within) }
 
-  seen-one : (t m v s : ℕ) {R : List Rec} {S : List Item} → not (sp t) ≡ true → See R S → See (rec t m v s ∷ R) (plain t m v s ∷ S)
+  seen-one : (t m v s q : ℕ) {R : List Rec} {S : List Item} → not (sp t) ≡ true → See R S → See (rec t m v s q ∷ R) (plain t m v s ∷ S)
   unfolding look inside
-  seen-one t m v s h x = record { looks = rw (not-true (sp t) h, x .looks); within = rw (not-true (sp t) h, x .within) }
+  seen-one t m v s q h x = record { looks = rw (not-true (sp t) h, x .looks); within = rw (not-true (sp t) h, x .within) }
 
-  seen-packs : (t m n k : ℕ) (cs : List ℕ) → not (sp t) ≡ true → See (packs t m n k cs) (packed t m n k cs)
+  seen-packs : (t m q n k : ℕ) (cs : List ℕ) → not (sp t) ≡ true → See (packs t m q n k cs) (packed t m n k cs)
   unfolding packs packed
-  seen-packs t m n zero cs h = seen-nil
-  seen-packs t m n (suc k) cs h = seen-one t m (reading.octets 8 cs) n h (seen-packs t m n k (drop 8 cs) h)
+  seen-packs t m q n zero cs h = seen-nil
+  seen-packs t m q n (suc k) cs h = seen-one t m (reading.octets 8 cs) n q h (seen-packs t m q n k (drop 8 cs) h)
 
-  seen-pack : (t m : ℕ) (cs : List ℕ) → not (sp t) ≡ true → See (pack t m cs) (spelt t m cs)
+  seen-pack : (t m q : ℕ) (cs : List ℕ) → not (sp t) ≡ true → See (pack t m q cs) (spelt t m cs)
   unfolding pack spelt
-  seen-pack t m cs h = seen-packs t m (length cs) ((length cs + 7) / 8) cs h
+  seen-pack t m q cs h = seen-packs t m q (length cs) ((length cs + 7) / 8) cs h
 
-  seen-letters : (t n m : ℕ) (c : Letters) (us : List ℕ) → not (sp t) ≡ true → clearLetters sp n c ≡ true → All (λ u. u < n) us → See (lettered t c m us) (inLetters t c m us)
-  seen-letters t n m (first c) us h k a = seen-pack t m (coded c us) h
-  seen-letters t n m (numeric v) us h k a =
+  seen-letters : (t n m q : ℕ) (c : Letters) (us : List ℕ) → not (sp t) ≡ true → clearLetters sp n c ≡ true → All (λ u. u < n) us → See (lettered t c m q us) (inLetters t c m us)
+  seen-letters t n m q (first c) us h k a = seen-pack t m q (coded c us) h
+  seen-letters t n m q (numeric v) us h k a =
       let d = both (not (sp v)) (leb n 11) k in
-      rw (none-above n us (leb-true n 11 (d .1)) a) (seen-join (seen-pack t m (coded 48 us) h) (seen-pack v m (spaced us) (d .0)))
+      rw (none-above n us (leb-true n 11 (d .1)) a) (seen-join (seen-pack t m q (coded 48 us) h) (seen-pack v m q (spaced us) (d .0)))
 
-  seen-span : (t m q n : ℕ) (xs : List ℕ) → sp t ≡ true → length xs ≡ n → Spells b q xs → q + n ≤ e → See (reading.spanned t m q n) (spanned t m xs)
+  seen-span : (t m at q n : ℕ) (xs : List ℕ) → sp t ≡ true → length xs ≡ n → Spells b q xs → q + n ≤ e → See (reading.spanned t m at q n) (spanned t m xs)
   unfolding look inside reading.spanned spanned
-  seen-span t m q zero [] h l s k = seen-nil
-  seen-span t m q (suc n) [] h l s k = absurd (omega (arith, l))
-  seen-span t m q zero (x ∷ xs) h l s k = absurd (omega (arith, l))
-  seen-span t m q (suc n) (x ∷ xs) h l s k =
+  seen-span t m at q zero [] h l s k = seen-nil
+  seen-span t m at q (suc n) [] h l s k = absurd (omega (arith, l))
+  seen-span t m at q zero (x ∷ xs) h l s k = absurd (omega (arith, l))
+  seen-span t m at q (suc n) (x ∷ xs) h l s k =
       let z : stretch b q (suc n) ≡ x ∷ xs = rw (← l) (stretch-spelt b q (x ∷ xs) s) in
       record { looks = rw (h, z); within = rw (h, le-leb (q + suc n) e k) }
 
@@ -127,26 +127,26 @@ module _ (sp : ℕ → Bool) (b : ℕ → ℕ) (e : ℕ) where
 
     pub seen : (f : Fmt) (v : Value (typeOf f)) (x : Ctx) (G : List ℕ) (at : ℕ) → clear sp f G ≡ true → InRange (typeOf f) v → Spells b at (encode (typeOf f) v) → at + length (encode (typeOf f) v) ≤ e
         → See (tell f v x at) (shown f v x)
-    seen (num t lo hi) v x G at c g s l = seen-one t (x .0) (word (lo + v)) 0 (both (not (sp t)) (leb lo 18446744073709551616) c .0) seen-nil
-    seen (listed t hi xs) v x G at c g s l = seen-one t (x .0) v 0 c seen-nil
-    seen (name t hi) v x G at c g s l = seen-one t (x .0) v 0 c seen-nil
+    seen (num t lo hi) v x G at c g s l = seen-one t (x .0) (word (lo + v)) 0 at (both (not (sp t)) (leb lo 18446744073709551616) c .0) seen-nil
+    seen (listed t hi xs) v x G at c g s l = seen-one t (x .0) v 0 at c seen-nil
+    seen (name t hi) v x G at c g s l = seen-one t (x .0) v 0 at c seen-nil
     seen (text t n k lo hi) v x G at c g s l =
         let d = both (not (sp t)) (leb 1 lo && clearLetters sp n k) c in
-        seen-letters t n (x .0) k v (d .0) (both (leb 1 lo) (clearLetters sp n k) (d .1) .1) (g .2)
+        seen-letters t n (x .0) at k v (d .0) (both (leb 1 lo) (clearLetters sp n k) (d .1) .1) (g .2)
     seen (span t w lo hi) v x G at c g s l =
         let z : List ℕ = sizeBits lo hi (length v) in
         let r : List ℕ = unitBits (2 ^ w) v in
         let i = length-size b e lo hi (length v) in
-        seen-span t (x .0) (at + width (hi - lo)) (length v * w) r (both (sp t) (leb 1 lo && leb 1 w) c .0) (length-span w v) (rw i at (spells-snd b at z r s)) (omega (arith, length-append z r, length-span w v))
+        seen-span t (x .0) at (at + width (hi - lo)) (length v * w) r (both (sp t) (leb 1 lo && leb 1 w) c .0) (length-span w v) (rw i at (spells-snd b at z r s)) (omega (arith, length-append z r, length-span w v))
     seen (anySpan t w) v x G at c g s l =
         let z : List ℕ = lengthBits (length v) in
         let r : List ℕ = unitBits (2 ^ w) v in
-        seen-span t (x .0) (at + length z) (length v * w) r (both (sp t) (leb 1 w && not (member t G)) c .0) (length-span w v) (spells-snd b at z r s) (omega (arith, length-append z r, length-span w v))
+        seen-span t (x .0) at (at + length z) (length v * w) r (both (sp t) (leb 1 w && not (member t G)) c .0) (length-span w v) (spells-snd b at z r s) (omega (arith, length-append z r, length-span w v))
     seen (skipped m) v x G at c g s l = absurd v
     seen (small m t) v x G at c g s l = absurd v
     seen null v x G at c g s l = seen-nil
-    seen (noted t y r f) v x G at c g s l = let d = both (not (sp t)) (clear sp f G) c in seen-one t (x .0) y r (d .0) (seen f v x G at (d .1) g s l)
-    seen (placed t f) v x G at c g s l = let d = both (not (sp t)) (clear sp f G) c in seen-one t (x .0) (x .1) 0 (d .0) (seen f v x G at (d .1) g s l)
+    seen (noted t y r f) v x G at c g s l = let d = both (not (sp t)) (clear sp f G) c in seen-one t (x .0) y r at (d .0) (seen f v x G at (d .1) g s l)
+    seen (placed t f) v x G at c g s l = let d = both (not (sp t)) (clear sp f G) c in seen-one t (x .0) (x .1) 0 at (d .0) (seen f v x G at (d .1) g s l)
     seen (marked m) v x G at c g s l = absurd v
     seen (refuse w m) v x G at c g s l = absurd v
     seen (element f) v x G at c g s l = seen f v (x .1, x .1) G at c g s l
@@ -158,7 +158,7 @@ module _ (sp : ℕ → Bool) (b : ℕ → ℕ) (e : ℕ) where
         let w : ℕ = width (highest (alternativesOf fs)) in
         let i : List ℕ = bitsOf w (index (alternativesOf fs) v) in
         let n = length-bitsOf w (index (alternativesOf fs) v) in
-        seen-one t (x .0) (index (alternativesOf fs) v) 0 (d .0)
+        seen-one t (x .0) (index (alternativesOf fs) v) 0 at (d .0)
         (seenPick fs v x G (at + w) (d .1) g (rw n at (spells-snd b at i (encodePick (alternativesOf fs) v) s)) (omega (arith, length-append i (encodePick (alternativesOf fs) v))))
     seen (many lo hi f) v x G at c g s l =
         let d = both (solid f) (apart (firsts f) G && clear sp f (firsts f ++ G)) c in
@@ -201,7 +201,7 @@ module _ (sp : ℕ → Bool) (b : ℕ → ℕ) (e : ℕ) where
         let z : List ℕ = ifAny (λ a. encode (typeOf f) a) (vs .0) in
         let r : List ℕ = encodeMembers (membersOf fs) (vs .1) in
         seen-join
-        (seen-any (λ a. InRange (typeOf f) a) (λ a. encode (typeOf f) a) (λ a. tell f a x at) (λ a. shown f a x) (rec t (x .0) y n ∷ []) (plain t (x .0) y n ∷ []) (vs .0) at (seen-one t (x .0) y n (o .0) seen-nil) (λ a y u w. seen f a x H at (k .1) y u w) (g .0) (spells-fst b at z r s) (omega (arith, length-append z r)))
+        (seen-any (λ a. InRange (typeOf f) a) (λ a. encode (typeOf f) a) (λ a. tell f a x at) (λ a. shown f a x) (rec t (x .0) y n at ∷ []) (plain t (x .0) y n ∷ []) (vs .0) at (seen-one t (x .0) y n at (o .0) seen-nil) (λ a y u w. seen f a x H at (k .1) y u w) (g .0) (spells-fst b at z r s) (omega (arith, length-append z r)))
         (seenFields fs (vs .1) x G (at + length z) (d .1) (g .1) (spells-snd b at z r s) (omega (arith, length-append z r)))
     seenFields (unread t fs) (none, vs) x G at c g s l = seenFields fs vs x G at c (g .1) s l
     seenFields (unread t fs) (some v, vs) x G at c g s l = absurd v

@@ -1,4 +1,5 @@
--- What a list of records shows: of a span not where its bits are, but which they are. "Spans may move but show the same bits."
+-- What a list of records shows: of a span not where its bits are, but which they are; of no record the bit where its field starts.
+-- "Spans may move but show the same bits", and the writer "ignores the fifth word".
 use mathlib.Core.Bool.{Bool, true, false, cond, not, _&&_, _||_}
 use mathlib.Core.List.{List, [], _∷_}
 use Prim.Native.Nat.{ℕ, zero, suc, _+_}
@@ -7,7 +8,7 @@ use Rattle.x691.specs.Bits.{stretch}
 use Rattle.atn.specs.Reading.{Rec, rec}
 
 pub data Item : Type 0 where
-  -- a record as it stands: tag, element number, value, second number
+  -- a record but for its fifth word: tag, element number, value, second number
   plain : ℕ → ℕ → ℕ → ℕ → Item
   -- a span: tag, element number, its bits
   bits : ℕ → ℕ → List ℕ → Item
@@ -19,9 +20,9 @@ tagOf (bits t m xs) = t
 -- sp says which tags are those of spans, b are the bits that these point into
 unfoldable pub look : (ℕ → Bool) → (ℕ → ℕ) → List Rec → List Item
 look sp b [] = []
-look sp b (rec t m v s ∷ R) = cond (sp t) (bits t m (stretch b v s)) (plain t m v s) ∷ look sp b R
+look sp b (rec t m v s q ∷ R) = cond (sp t) (bits t m (stretch b v s)) (plain t m v s) ∷ look sp b R
 
 -- no span goes past the e bits that there are
 unfoldable pub inside : (ℕ → Bool) → ℕ → List Rec → Bool
 inside sp e [] = true
-inside sp e (rec t m v s ∷ R) = (not (sp t) || leb (v + s) e) && inside sp e R
+inside sp e (rec t m v s q ∷ R) = (not (sp t) || leb (v + s) e) && inside sp e R

@@ -12,13 +12,13 @@ use Rattle.atn.specs.Entries.{table-fits, direction-fits}
 use Rattle.record_lists.specs.Kinds.{spanTag, kindOf}
 use Rattle.record_lists.specs.Write.{write}
 
--- k records of four words, from record i on
+-- k records of five words, from record i on
 unfoldable pub recordsFrom : List ℕ → ℕ → ℕ → List Rec
 recordsFrom W i zero = []
-recordsFrom W i (suc k) = rec (getD W (i * 4) 0) (getD W (i * 4 + 1) 0) (getD W (i * 4 + 2) 0) (getD W (i * 4 + 3) 0) ∷ recordsFrom W (suc i) k
+recordsFrom W i (suc k) = rec (getD W (i * 5) 0) (getD W (i * 5 + 1) 0) (getD W (i * 5 + 2) 0) (getD W (i * 5 + 3) 0) (getD W (i * 5 + 4) 0) ∷ recordsFrom W (suc i) k
 
 unfoldable pub recordsOf : List ℕ → List Rec
-recordsOf W = recordsFrom W 0 (length W / 4)
+recordsOf W = recordsFrom W 0 (length W / 5)
 
 -- n bytes of a list of bits, from byte j on; behind the last bit all are 0
 unfoldable pub bytesFrom : List ℕ → ℕ → ℕ → List ℕ
@@ -39,7 +39,7 @@ pub data Written : Type 0 where
 
 -- a list is of whole records, below 2^32 of them; no machine has 2^56 bytes for spans to point into
 unfoldable pub list-fits : List ℕ → List ℕ → Bool
-list-fits W s = (eqb (length W % 4) 0 && ltb (length W / 4) 4294967296) && ltb (length s) 72057594037927936
+list-fits W s = (eqb (length W % 5) 0 && ltb (length W / 5) 4294967296) && ltb (length s) 72057594037927936
 
 unfoldable pub bitsOfMessage : Option Fmt → List ℕ → List ℕ → Option (List ℕ)
 bitsOfMessage none W s = none
