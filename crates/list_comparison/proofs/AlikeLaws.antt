@@ -1,4 +1,4 @@
--- Four words and four words, one after another.
+-- Five words and five words, one after another.
 use mathlib.Core.Path.{_≡_, refl, sym, _∙_}
 use mathlib.Core.Bool.{Bool, true, false, not}
 use mathlib.Core.List.{List}
@@ -23,9 +23,16 @@ module _ (a b : List ℕ) (at : ℕ) where
       unfolding alike
       values-differ n = rw (eq-eqb (getD a at 0) (getD b at 0) tags, eq-eqb (getD a (at + 1) 0) (getD b (at + 1) 0) elements, ne-eqb (getD a (at + 2) 0) (getD b (at + 2) 0) n)
 
-      pub seconds-decide : getD a (at + 2) 0 ≡ getD b (at + 2) 0 → eqb (getD a (at + 3) 0) (getD b (at + 3) 0) ≡ alike a b at
-      unfolding alike
-      seconds-decide v = rw (eq-eqb (getD a at 0) (getD b at 0) tags, eq-eqb (getD a (at + 1) 0) (getD b (at + 1) 0) elements, eq-eqb (getD a (at + 2) 0) (getD b (at + 2) 0) v)
+      module _ (values : getD a (at + 2) 0 ≡ getD b (at + 2) 0) where
+        pub seconds-differ : (getD a (at + 3) 0 ≡ getD b (at + 3) 0 → ⊥) → false ≡ alike a b at
+        unfolding alike
+        seconds-differ n =
+            rw (eq-eqb (getD a at 0) (getD b at 0) tags, eq-eqb (getD a (at + 1) 0) (getD b (at + 1) 0) elements, eq-eqb (getD a (at + 2) 0) (getD b (at + 2) 0) values, ne-eqb (getD a (at + 3) 0) (getD b (at + 3) 0) n)
+
+        pub places-decide : getD a (at + 3) 0 ≡ getD b (at + 3) 0 → eqb (getD a (at + 4) 0) (getD b (at + 4) 0) ≡ alike a b at
+        unfolding alike
+        places-decide s =
+            rw (eq-eqb (getD a at 0) (getD b at 0) tags, eq-eqb (getD a (at + 1) 0) (getD b (at + 1) 0) elements, eq-eqb (getD a (at + 2) 0) (getD b (at + 2) 0) values, eq-eqb (getD a (at + 3) 0) (getD b (at + 3) 0) s)
 
 ---------------------------------------------------------------- the test
 

@@ -16,8 +16,10 @@ compared i (r ∷ R) [] = Missing i
 compared i (r ∷ R) (a ∷ []) = Incomplete i
 compared i (r ∷ R) (a ∷ b ∷ []) = Incomplete i
 compared i (r ∷ R) (a ∷ b ∷ c ∷ []) = Incomplete i
-compared i (rec t e v n ∷ R) (a ∷ b ∷ c ∷ d ∷ l) = cond (eqb t a && (eqb e b && (eqb v c && eqb n d))) (compared (suc i) R l) (Differs i)
+compared i (r ∷ R) (a ∷ b ∷ c ∷ d ∷ []) = Incomplete i
+compared i (rec t e v n q ∷ R) (a ∷ b ∷ c ∷ d ∷ p ∷ l) = cond (eqb t a && (eqb e b && (eqb v c && (eqb n d && eqb q p)))) (compared (suc i) R l) (Differs i)
 
--- the four words from a place on are the same in both
+-- the five words from a place on are the same in both
 unfoldable pub alike : List ℕ → List ℕ → ℕ → Bool
-alike a b at = eqb (getD a at 0) (getD b at 0) && (eqb (getD a (at + 1) 0) (getD b (at + 1) 0) && (eqb (getD a (at + 2) 0) (getD b (at + 2) 0) && eqb (getD a (at + 3) 0) (getD b (at + 3) 0)))
+alike a b at =
+    eqb (getD a at 0) (getD b at 0) && (eqb (getD a (at + 1) 0) (getD b (at + 1) 0) && (eqb (getD a (at + 2) 0) (getD b (at + 2) 0) && (eqb (getD a (at + 3) 0) (getD b (at + 3) 0) && eqb (getD a (at + 4) 0) (getD b (at + 4) 0))))

@@ -1,4 +1,4 @@
-// A list of records from any source, four words each, held to the records of a reading.
+// A list of records from any source, five words each, held to the records of a reading.
 ghost use mathlib.Core.List.{List};
 ghost use mathlib.Core.Path.{_≡_};
 ghost use Prim.Native.Nat.{_+_, _*_, _≤_};
@@ -19,17 +19,17 @@ pub enum Checked {
 
 // The words of `count` records stand at the front of `words`.
 pub fn compare(words: &[u64], count: usize, list: &[u64]) -> Checked
-    requires { ⌜ count * 4 ≤ length (now words) ⌝ }
-    ensures { λ r. ⌜ ((R : List Rec) → take (count * 4) (now (words .entry)) ≡ flat R → r ≡ compared 1 R (now (list .entry))) ⌝ }
+    requires { ⌜ count * 5 ≤ length (now words) ⌝ }
+    ensures { λ r. ⌜ ((R : List Rec) → take (count * 5) (now (words .entry)) ≡ flat R → r ≡ compared 1 R (now (list .entry))) ⌝ }
 {
     let mut i = 0;
     while i < count {
-        let at = i * 4;
+        let at = i * 5;
         let left = list.len() - at;
         if left == 0 {
             return Checked::Missing(i + 1);
         }
-        if left < 4 {
+        if left < 5 {
             return Checked::Incomplete(i + 1);
         }
         if !same_record(words, list, at) {
@@ -37,15 +37,15 @@ pub fn compare(words: &[u64], count: usize, list: &[u64]) -> Checked
         }
         i += 1;
     }
-    if count * 4 < list.len() {
+    if count * 5 < list.len() {
         return Checked::TooMany(count + 1);
     }
     Checked::Yes
 }
 
-// Whether the four words from `at` on are the same.
+// Whether the five words from `at` on are the same.
 fn same_record(a: &[u64], b: &[u64], at: usize) -> bool
-    requires { ⌜ (at + 4 ≤ length (now a)) × (at + 4 ≤ length (now b)) ⌝ }
+    requires { ⌜ (at + 5 ≤ length (now a)) × (at + 5 ≤ length (now b)) ⌝ }
     ensures { λ r. ⌜ r ≡ alike (now (a .entry)) (now (b .entry)) at ⌝ }
 {
     if a[at] != b[at] {
@@ -57,5 +57,8 @@ fn same_record(a: &[u64], b: &[u64], at: usize) -> bool
     if a[at + 2] != b[at + 2] {
         return false;
     }
-    a[at + 3] == b[at + 3]
+    if a[at + 3] != b[at + 3] {
+        return false;
+    }
+    a[at + 4] == b[at + 4]
 }

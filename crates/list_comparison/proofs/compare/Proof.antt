@@ -10,7 +10,7 @@ use Rattle.list_comparison.proofs.compare.Statement.{statement}
 use Rattle.list_comparison.proofs.compare.Tie as tie
 
 abbrev Inv-loop : tie.InvT-loop
-Inv-loop words count list i₀ i = (i ≤ count) × (count * 4 ≤ length words) × (i * 4 ≤ length list) × Upto words count list i
+Inv-loop words count list i₀ i = (i ≤ count) × (count * 5 ≤ length words) × (i * 5 ≤ length list) × Upto words count list i
 
 abbrev μ-loop : tie.MeasureT-loop
 μ-loop words count list i₀ i = count - i
