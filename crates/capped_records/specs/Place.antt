@@ -15,7 +15,7 @@ counted n k = min (n + k) top
 
 -- one record behind n others, where there is room for it
 unfoldable pub placeOne : List ℕ → ℕ → Rec → List ℕ
-placeOne w n r = cond (leb (n * 4 + 4) (length w)) (take (n * 4) w ++ (flat (r ∷ []) ++ drop (n * 4 + 4) w)) w
+placeOne w n r = cond (leb (n * 5 + 5) (length w)) (take (n * 5) w ++ (flat (r ∷ []) ++ drop (n * 5 + 5) w)) w
 
 unfoldable pub place : List ℕ → ℕ → List Rec → List ℕ
 place w n [] = w
