@@ -95,13 +95,13 @@ module _ (k d : ℕ) (down up W s X : List ℕ) where
     unfolding bitsOfMessage
     no-fit h l = let f = a-kind k h in rw (f .1, l)
 
-    pub says-8-fours : (r : Written) → k ≤ 2 → (length W % 4 ≡ 0 → ⊥) → r ≡ refusedOf 8 0 → Says r X all
+    pub says-8-fives : (r : Written) → k ≤ 2 → (length W % 5 ≡ 0 → ⊥) → r ≡ refusedOf 8 0 → Says r X all
     unfolding list-fits
-    says-8-fours r h n q = nothing-8 r (no-fit h (rw (ne-eqb (length W % 4) 0 n))) q
+    says-8-fives r h n q = nothing-8 r (no-fit h (rw (ne-eqb (length W % 5) 0 n))) q
 
-    pub says-8-many : (r : Written) → k ≤ 2 → 4294967296 ≤ length W / 4 → r ≡ refusedOf 8 0 → Says r X all
+    pub says-8-many : (r : Written) → k ≤ 2 → 4294967296 ≤ length W / 5 → r ≡ refusedOf 8 0 → Says r X all
     unfolding list-fits
-    says-8-many r h n q = nothing-8 r (no-fit h (rw (le-ltb (length W / 4) 4294967296 n) (off (eqb (length W % 4) 0)))) q
+    says-8-many r h n q = nothing-8 r (no-fit h (rw (le-ltb (length W / 5) 4294967296 n) (off (eqb (length W % 5) 0)))) q
       where
         off : (b : Bool) → (b && false) && ltb (length s) 72057594037927936 ≡ false
         off true = refl
@@ -109,13 +109,13 @@ module _ (k d : ℕ) (down up W s X : List ℕ) where
 
     pub says-8-bytes : (r : Written) → k ≤ 2 → 72057594037927936 ≤ length s → r ≡ refusedOf 8 0 → Says r X all
     unfolding list-fits
-    says-8-bytes r h n q = nothing-8 r (no-fit h (rw (le-ltb (length s) 72057594037927936 n) (off (eqb (length W % 4) 0 && ltb (length W / 4) 4294967296)))) q
+    says-8-bytes r h n q = nothing-8 r (no-fit h (rw (le-ltb (length s) 72057594037927936 n) (off (eqb (length W % 5) 0 && ltb (length W / 5) 4294967296)))) q
       where
         off : (b : Bool) → b && false ≡ false
         off true = refl
         off false = refl
 
-    module _ (kl : k ≤ 2) (m : ℕ) (me : m ≡ length W / 4) (fours : length W % 4 ≡ 0) (few : length W / 4 < 4294967296) (bytes : length s < 72057594037927936) where
+    module _ (kl : k ≤ 2) (m : ℕ) (me : m ≡ length W / 5) (fives : length W % 5 ≡ 0) (few : length W / 5 < 4294967296) (bytes : length s < 72057594037927936) where
       abbrev f : Fmt
       f = a-kind k kl .0
 
@@ -124,11 +124,11 @@ module _ (k d : ℕ) (down up W s X : List ℕ) where
 
       fits : list-fits W s ≡ true
       unfolding list-fits
-      fits = rw (eq-eqb (length W % 4) 0 fours, lt-ltb (length W / 4) 4294967296 few, lt-ltb (length s) 72057594037927936 bytes)
+      fits = rw (eq-eqb (length W % 5) 0 fives, lt-ltb (length W / 5) 4294967296 few, lt-ltb (length s) 72057594037927936 bytes)
 
       records : rest W m 0 ≡ recordsOf W
       unfolding rest recordsOf
-      records = let e : m - 0 ≡ length W / 4 = omega (arith, me) in rw e
+      records = let e : m - 0 ≡ length W / 5 = omega (arith, me) in rw e
 
       abbrev list : List Item
       list = items (bitOf s) W m 0
@@ -227,7 +227,7 @@ table-sizes t down up e h =
     let c = both (leb 1 (length up)) (leb (length up) 256) (a .1) in
     (leb-true 1 (length down) (b .0), leb-true (length down) 256 (b .1), leb-true 1 (length up) (c .0), leb-true (length up) 256 (c .1))
 
-pub lent-list : (W : List ℕ) (m : ℕ) (s : List ℕ) (b : Bool) → m ≡ length W / 4 → length W / 4 < 4294967296 → length s < 72057594037927936 → b ≡ inside spanTag (length s * 8) (rest W m 0) → b ≡ true → Lent W m s
+pub lent-list : (W : List ℕ) (m : ℕ) (s : List ℕ) (b : Bool) → m ≡ length W / 5 → length W / 5 < 4294967296 → length s < 72057594037927936 → b ≡ inside spanTag (length s * 8) (rest W m 0) → b ≡ true → Lent W m s
 lent-list W m s b e f g h i = record { records = omega (arith, e); few = omega (arith, e, f); bytes = omega (arith, g); spans = sym h ∙ i }
 
 pub root-ready : (k d r : ℕ) (down up W : List ℕ) (m : ℕ) (s : List ℕ) → r ≡ rootOf k d → 1 ≤ length down → length down ≤ 256 → 1 ≤ length up → length up ≤ 256 → Lent W m s

@@ -15,7 +15,7 @@ use Rattle.pens.proofs.RestLaws.{itemOf, items-cons, items-end}
 
 -- the value of record i
 abbrev pub value : List ℕ → ℕ → ℕ
-value W i = getD W (i * 4 + 2) 0
+value W i = getD W (i * 5 + 2) 0
 
 -- the record is taken and v is got, if v is good
 abbrev pub one : Bool → Item → ℕ → List Item → Got ℕ
@@ -53,13 +53,13 @@ module _ (t e : ℕ) (show : ℕ → ℕ) (good : ℕ → Bool) (propose : ℕ �
     leaf-front k = go (ltb i m) refl
       where
         go : (a : Bool) → ltb i m ≡ a → of (items b W m i) ≡ one (good (propose (value W i))) (plain t e (value W i) 0) (propose (value W i)) (items b W m i)
-        go true q = rw (items-cons b W m i (ltb-true i m q)) (leaf-item b (getD W (i * 4) 0) (getD W (i * 4 + 1) 0) (value W i) (getD W (i * 4 + 3) 0) (items b W m (suc i)) k)
+        go true q = rw (items-cons b W m i (ltb-true i m q)) (leaf-item b (getD W (i * 5) 0) (getD W (i * 5 + 1) 0) (value W i) (getD W (i * 5 + 3) 0) (items b W m (suc i)) k)
         go false q = leaf-end (ltb-false i m q) ∙ rw (items-end b W m i (ltb-false i m q)) (sym (either-way (good (propose (value W i))) no))
 
 -- what is good is got if the record is the one that is asked for
 pub one-begins : (b : ℕ → ℕ) (W : List ℕ) (m i : ℕ) (x : Item) (v : ℕ) → i < m → one true x v (items b W m i) ≡ cond (begins x (items b W m i)) (got v (items b W m (suc i))) no
 unfolding peel feed begins
-one-begins b W m i x v h = rw (items-cons b W m i h) (go (same x (itemOf b (getD W (i * 4) 0) (getD W (i * 4 + 1) 0) (getD W (i * 4 + 2) 0) (getD W (i * 4 + 3) 0))) (items b W m (suc i)))
+one-begins b W m i x v h = rw (items-cons b W m i h) (go (same x (itemOf b (getD W (i * 5) 0) (getD W (i * 5 + 1) 0) (getD W (i * 5 + 2) 0) (getD W (i * 5 + 3) 0))) (items b W m (suc i)))
   where
     go : (a : Bool) (S : List Item) → feed (cond a (got zero S) no) (λ _ U. got v U) ≡ cond a (got v S) no
     go true S = refl

@@ -25,7 +25,7 @@ rest-end : (W : List ℕ) (m i : ℕ) → m ≤ i → rest W m i ≡ []
 unfolding rest recordsFrom
 rest-end W m i h = let e : m - i ≡ 0 = omega arith in rw e
 
-rest-cons : (W : List ℕ) (m i : ℕ) → i < m → rest W m i ≡ rec (getD W (i * 4) 0) (getD W (i * 4 + 1) 0) (getD W (i * 4 + 2) 0) (getD W (i * 4 + 3) 0) ∷ rest W m (suc i)
+rest-cons : (W : List ℕ) (m i : ℕ) → i < m → rest W m i ≡ rec (getD W (i * 5) 0) (getD W (i * 5 + 1) 0) (getD W (i * 5 + 2) 0) (getD W (i * 5 + 3) 0) (getD W (i * 5 + 4) 0) ∷ rest W m (suc i)
 unfolding rest recordsFrom
 rest-cons W m i h = let e : m - i ≡ suc (m - suc i) = omega arith in rw e
 
@@ -34,7 +34,7 @@ module _ (b : ℕ → ℕ) (W : List ℕ) (m i : ℕ) where
   unfolding items look
   items-end h = rw (rest-end W m i h)
 
-  pub items-cons : i < m → items b W m i ≡ itemOf b (getD W (i * 4) 0) (getD W (i * 4 + 1) 0) (getD W (i * 4 + 2) 0) (getD W (i * 4 + 3) 0) ∷ items b W m (suc i)
+  pub items-cons : i < m → items b W m i ≡ itemOf b (getD W (i * 5) 0) (getD W (i * 5 + 1) 0) (getD W (i * 5 + 2) 0) (getD W (i * 5 + 3) 0) ∷ items b W m (suc i)
   unfolding items look
   items-cons h = rw (rest-cons W m i h)
 
@@ -75,33 +75,33 @@ module _ (b : ℕ → ℕ) (W : List ℕ) (m i : ℕ) where
   unfolding opens
   tagged-end t h = rw (items-end b W m i h)
 
-  pub tagged-at : (t : ℕ) → i < m → opens (t ∷ []) (items b W m i) ≡ eqb (getD W (i * 4) 0) t
+  pub tagged-at : (t : ℕ) → i < m → opens (t ∷ []) (items b W m i) ≡ eqb (getD W (i * 5) 0) t
   unfolding opens member
-  tagged-at t h = rw (items-cons b W m i h, tag-of b (getD W (i * 4) 0) (getD W (i * 4 + 1) 0) (getD W (i * 4 + 2) 0) (getD W (i * 4 + 3) 0)) (or-no (eqb (getD W (i * 4) 0) t))
+  tagged-at t h = rw (items-cons b W m i h, tag-of b (getD W (i * 5) 0) (getD W (i * 5 + 1) 0) (getD W (i * 5 + 2) 0) (getD W (i * 5 + 3) 0)) (or-no (eqb (getD W (i * 5) 0) t))
 
   pub record-end : (x : Item) → m ≤ i → begins x (items b W m i) ≡ false
   unfolding begins
   record-end x h = rw (items-end b W m i h)
 
   pub record-at : (t e v s : ℕ) → spanTag t ≡ false → i < m
-      → begins (plain t e v s) (items b W m i) ≡ (eqb t (getD W (i * 4) 0) && eqb e (getD W (i * 4 + 1) 0)) && (eqb v (getD W (i * 4 + 2) 0) && eqb s (getD W (i * 4 + 3) 0))
+      → begins (plain t e v s) (items b W m i) ≡ (eqb t (getD W (i * 5) 0) && eqb e (getD W (i * 5 + 1) 0)) && (eqb v (getD W (i * 5 + 2) 0) && eqb s (getD W (i * 5 + 3) 0))
   unfolding begins
-  record-at t e v s k h = rw (items-cons b W m i h) (same-item b t e v s (getD W (i * 4) 0) (getD W (i * 4 + 1) 0) (getD W (i * 4 + 2) 0) (getD W (i * 4 + 3) 0) k)
+  record-at t e v s k h = rw (items-cons b W m i h) (same-item b t e v s (getD W (i * 5) 0) (getD W (i * 5 + 1) 0) (getD W (i * 5 + 2) 0) (getD W (i * 5 + 3) 0) k)
 
   -- a record by what is found in its words
-  pub record-last : (t e v s : ℕ) → spanTag t ≡ false → i < m → getD W (i * 4) 0 ≡ t → getD W (i * 4 + 1) 0 ≡ e → getD W (i * 4 + 2) 0 ≡ v → eqb (getD W (i * 4 + 3) 0) s ≡ begins (plain t e v s) (items b W m i)
+  pub record-last : (t e v s : ℕ) → spanTag t ≡ false → i < m → getD W (i * 5) 0 ≡ t → getD W (i * 5 + 1) 0 ≡ e → getD W (i * 5 + 2) 0 ≡ v → eqb (getD W (i * 5 + 3) 0) s ≡ begins (plain t e v s) (items b W m i)
   record-last t e v s k h x y z =
-      let f = eqb-swap (getD W (i * 4 + 3) 0) s in
-      f ∙ sym (record-at t e v s k h ∙ rw (eq-eqb t (getD W (i * 4) 0) (sym x), eq-eqb e (getD W (i * 4 + 1) 0) (sym y), eq-eqb v (getD W (i * 4 + 2) 0) (sym z)))
+      let f = eqb-swap (getD W (i * 5 + 3) 0) s in
+      f ∙ sym (record-at t e v s k h ∙ rw (eq-eqb t (getD W (i * 5) 0) (sym x), eq-eqb e (getD W (i * 5 + 1) 0) (sym y), eq-eqb v (getD W (i * 5 + 2) 0) (sym z)))
 
-  pub record-value : (t e v s : ℕ) → spanTag t ≡ false → i < m → (getD W (i * 4 + 2) 0 ≡ v → ⊥) → begins (plain t e v s) (items b W m i) ≡ false
-  record-value t e v s k h z = record-at t e v s k h ∙ rw (ne-eqb v (getD W (i * 4 + 2) 0) (λ q. z (sym q))) (and-no (eqb t (getD W (i * 4) 0) && eqb e (getD W (i * 4 + 1) 0)))
+  pub record-value : (t e v s : ℕ) → spanTag t ≡ false → i < m → (getD W (i * 5 + 2) 0 ≡ v → ⊥) → begins (plain t e v s) (items b W m i) ≡ false
+  record-value t e v s k h z = record-at t e v s k h ∙ rw (ne-eqb v (getD W (i * 5 + 2) 0) (λ q. z (sym q))) (and-no (eqb t (getD W (i * 5) 0) && eqb e (getD W (i * 5 + 1) 0)))
 
-  pub record-element : (t e v s : ℕ) → spanTag t ≡ false → i < m → (getD W (i * 4 + 1) 0 ≡ e → ⊥) → begins (plain t e v s) (items b W m i) ≡ false
-  record-element t e v s k h z = record-at t e v s k h ∙ rw (ne-eqb e (getD W (i * 4 + 1) 0) (λ q. z (sym q)), and-no (eqb t (getD W (i * 4) 0)))
+  pub record-element : (t e v s : ℕ) → spanTag t ≡ false → i < m → (getD W (i * 5 + 1) 0 ≡ e → ⊥) → begins (plain t e v s) (items b W m i) ≡ false
+  record-element t e v s k h z = record-at t e v s k h ∙ rw (ne-eqb e (getD W (i * 5 + 1) 0) (λ q. z (sym q)), and-no (eqb t (getD W (i * 5) 0)))
 
-  pub record-tag : (t e v s : ℕ) → spanTag t ≡ false → i < m → (getD W (i * 4) 0 ≡ t → ⊥) → begins (plain t e v s) (items b W m i) ≡ false
-  record-tag t e v s k h z = record-at t e v s k h ∙ rw (ne-eqb t (getD W (i * 4) 0) (λ q. z (sym q)))
+  pub record-tag : (t e v s : ℕ) → spanTag t ≡ false → i < m → (getD W (i * 5) 0 ≡ t → ⊥) → begins (plain t e v s) (items b W m i) ≡ false
+  record-tag t e v s k h z = record-at t e v s k h ∙ rw (ne-eqb t (getD W (i * 5) 0) (λ q. z (sym q)))
 
   -- behind the record at the front
   pub items-drop : i < m → drop 1 (items b W m i) ≡ items b W m (i + 1)

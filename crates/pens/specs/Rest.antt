@@ -1,4 +1,4 @@
--- The records of lent words, four words each, and what they show.
+-- The records of lent words, five words each, and what they show.
 use mathlib.Core.List.{List}
 use Prim.Native.Nat.{ℕ, _-_}
 use Rattle.atn.specs.Reading.{Rec}

@@ -25,11 +25,11 @@ pub const LIMIT: usize = 4294967296;
 
 // Whether record i, of m, has this tag.
 pub fn is_tagged(words: &[u64], m: usize, i: usize, tag: u64) -> bool
-    requires { ⌜ (m * 4 ≤ length (now words)) × (m < 2 ^ 32) ⌝ }
+    requires { ⌜ (m * 5 ≤ length (now words)) × (m < 2 ^ 32) ⌝ }
     ensures { λ r. ⌜ ((b : ℕ → ℕ) → r ≡ opens (tag ∷ []) (items b (now (words .entry)) m i)) ⌝ }
 {
     if i < m {
-        return words[i * 4] == tag;
+        return words[i * 5] == tag;
     }
     false
 }
@@ -44,11 +44,11 @@ pub fn is_record(
     value: u64,
     second: u64,
 ) -> bool
-    requires { ⌜ (m * 4 ≤ length (now words)) × (m < 2 ^ 32) × (spanTag tag ≡ false) ⌝ }
+    requires { ⌜ (m * 5 ≤ length (now words)) × (m < 2 ^ 32) × (spanTag tag ≡ false) ⌝ }
     ensures { λ r. ⌜ ((b : ℕ → ℕ) → r ≡ begins (plain tag element value second) (items b (now (words .entry)) m i)) × (r ≡ true → i < m) ⌝ }
 {
     if i < m {
-        let k = i * 4;
+        let k = i * 5;
         if words[k] == tag {
             if words[k + 1] == element {
                 if words[k + 2] == value {
@@ -73,7 +73,7 @@ pub fn refuse(p: Pen) -> Pen
 
 // This record is taken.
 pub fn take(words: &[u64], m: usize, p: Pen, tag: u64, element: u64, value: u64, second: u64) -> Pen
-    requires { ⌜ (m * 4 ≤ length (now words)) × (m < 2 ^ 32) × (spanTag tag ≡ false) ⌝ }
+    requires { ⌜ (m * 5 ≤ length (now words)) × (m < 2 ^ 32) × (spanTag tag ≡ false) ⌝ }
     ensures { λ r. ⌜ ((b : ℕ → ℕ) (X : List ℕ) → Writes (λ _. []) (λ R. peel (plain tag element value second ∷ []) zero R) (λ i. items b (now (words .entry)) m i) m p X r X) ⌝ }
 {
     if p.off {

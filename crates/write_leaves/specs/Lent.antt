@@ -12,7 +12,7 @@ use Rattle.pens.specs.Rest.{rest}
 
 -- the list, and the bytes that its spans point into
 pub record Lent (W : List ℕ) (m : ℕ) (s : List ℕ) : Type 0 where
-  pub records : m * 4 ≤ length W
+  pub records : m * 5 ≤ length W
   pub few : m < 2 ^ 32
   pub bytes : length s < 2 ^ 56
   pub spans : inside spanTag (length s * 8) (rest W m 0) ≡ true

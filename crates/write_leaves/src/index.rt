@@ -26,7 +26,7 @@ pub fn write_index(
     tag: u64,
     n: u64,
 ) -> Indexed
-    requires { ⌜ (m * 4 ≤ length (now words)) × (m < 2 ^ 32) × (spanTag tag ≡ false) × (1 ≤ n) ⌝ }
+    requires { ⌜ (m * 5 ≤ length (now words)) × (m < 2 ^ 32) × (spanTag tag ≡ false) × (1 ≤ n) ⌝ }
     ensures { λ r. ⌜ ((b : ℕ → ℕ) → Indexes tag element n b (now (words .entry)) m p (now (out .entry)) r (now (out .exit))) ⌝ }
 {
     if p.off {
@@ -36,7 +36,7 @@ pub fn write_index(
     if m <= i {
         return none(p);
     }
-    let v = words[i * 4 + 2];
+    let v = words[i * 5 + 2];
     if n <= v {
         return none(p);
     }

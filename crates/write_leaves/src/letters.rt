@@ -25,7 +25,7 @@ pub fn write_letters(
     lo: u64,
     hi: u64,
 ) -> Pen
-    requires { ⌜ (m * 4 ≤ length (now words)) × (m < 2 ^ 32) × (spanTag tag ≡ false) × (sureLetters n c lo hi ≡ true) ⌝ }
+    requires { ⌜ (m * 5 ≤ length (now words)) × (m < 2 ^ 32) × (spanTag tag ≡ false) × (sureLetters n c lo hi ≡ true) ⌝ }
     ensures { λ r. ⌜ ((b : ℕ → ℕ) (y : ℕ) → Part (text tag n (lettersBy c) lo hi) (element, y) b (now (words .entry)) m p (now (out .entry)) r (now (out .exit))) ⌝ }
 {
     if c < 256 {

@@ -25,12 +25,12 @@ pub fn write_number(
     lo: u64,
     hi: u64,
 ) -> Pen
-    requires { ⌜ (m * 4 ≤ length (now words)) × (m < 2 ^ 32) × (spanTag tag ≡ false) ⌝ }
+    requires { ⌜ (m * 5 ≤ length (now words)) × (m < 2 ^ 32) × (spanTag tag ≡ false) ⌝ }
     ensures { λ r. ⌜ ((b : ℕ → ℕ) (y : ℕ) → Part (num tag lo hi) (element, y) b (now (words .entry)) m p (now (out .entry)) r (now (out .exit))) ⌝ }
 {
     let i = p.next;
     if i < m {
-        let value = words[i * 4 + 2];
+        let value = words[i * 5 + 2];
         let above = wrapping_sub_u64(value, lo);
         let extent = wrapping_sub_u64(hi, lo);
         if above <= extent {
@@ -53,7 +53,7 @@ pub fn write_name(
     tag: u64,
     hi: u64,
 ) -> Pen
-    requires { ⌜ (m * 4 ≤ length (now words)) × (m < 2 ^ 32) × (spanTag tag ≡ false) ⌝ }
+    requires { ⌜ (m * 5 ≤ length (now words)) × (m < 2 ^ 32) × (spanTag tag ≡ false) ⌝ }
     ensures { λ r. ⌜ ((b : ℕ → ℕ) (y : ℕ) → Part (name tag hi) (element, y) b (now (words .entry)) m p (now (out .entry)) r (now (out .exit))) ⌝ }
 {
     write_number(words, m, out, p, element, tag, 0, hi)
@@ -61,12 +61,12 @@ pub fn write_name(
 
 // A reason, in the bits of a name from 0 to 30: only three are listed.
 pub fn write_reason(words: &[u64], m: usize, out: &mut [u8], p: Pen, element: u64, tag: u64) -> Pen
-    requires { ⌜ (m * 4 ≤ length (now words)) × (m < 2 ^ 32) × (spanTag tag ≡ false) ⌝ }
+    requires { ⌜ (m * 5 ≤ length (now words)) × (m < 2 ^ 32) × (spanTag tag ≡ false) ⌝ }
     ensures { λ r. ⌜ ((b : ℕ → ℕ) (y : ℕ) → Part (listed tag 30 (0 ∷ 1 ∷ 30 ∷ [])) (element, y) b (now (words .entry)) m p (now (out .entry)) r (now (out .exit))) ⌝ }
 {
     let i = p.next;
     if i < m {
-        match words[i * 4 + 2] {
+        match words[i * 5 + 2] {
             0 | 1 | 30 => {
                 return write_name(words, m, out, p, element, tag, 30);
             }

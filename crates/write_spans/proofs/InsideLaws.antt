@@ -16,12 +16,12 @@ use Rattle.pens.specs.Rest.{rest}
 module _ (sp : ℕ → Bool) (e : ℕ) (W : List ℕ) where
   -- record i is no span, or lies inside
   abbrev pub lies : ℕ → Bool
-  lies i = not (sp (getD W (i * 4) 0)) || leb (getD W (i * 4 + 2) 0 + getD W (i * 4 + 3) 0) e
+  lies i = not (sp (getD W (i * 5) 0)) || leb (getD W (i * 5 + 2) 0 + getD W (i * 5 + 3) 0) e
 
-  pub span-lies : (i : ℕ) {t r : Bool} → t ≡ sp (getD W (i * 4) 0) → t ≡ true → r ≡ leb (getD W (i * 4 + 2) 0 + getD W (i * 4 + 3) 0) e → r ≡ lies i
+  pub span-lies : (i : ℕ) {t r : Bool} → t ≡ sp (getD W (i * 5) 0) → t ≡ true → r ≡ leb (getD W (i * 5 + 2) 0 + getD W (i * 5 + 3) 0) e → r ≡ lies i
   span-lies i x y z = rw (← x, y) z
 
-  pub other-lies : (i : ℕ) {t : Bool} → t ≡ sp (getD W (i * 4) 0) → t ≡ false → true ≡ lies i
+  pub other-lies : (i : ℕ) {t : Bool} → t ≡ sp (getD W (i * 5) 0) → t ≡ false → true ≡ lies i
   other-lies i x y = rw (← x, y)
 
 module _ (sp : ℕ → Bool) (e : ℕ) (W : List ℕ) (m : ℕ) where
@@ -46,7 +46,7 @@ module _ (sp : ℕ → Bool) (e : ℕ) (W : List ℕ) (m : ℕ) where
   inside-from a (suc i) h = rw add-one at (both (lies sp e W i) (inside sp e (rest W m (i + 1))) (sym (inside-cons i (omega arith)) ∙ inside-from a i (omega arith)) .1)
 
   -- and each span does
-  pub inside-at : inside sp e (rest W m 0) ≡ true → (i : ℕ) → i < m → sp (getD W (i * 4) 0) ≡ true → getD W (i * 4 + 2) 0 + getD W (i * 4 + 3) 0 ≤ e
+  pub inside-at : inside sp e (rest W m 0) ≡ true → (i : ℕ) → i < m → sp (getD W (i * 5) 0) ≡ true → getD W (i * 5 + 2) 0 + getD W (i * 5 + 3) 0 ≤ e
   inside-at a i h s =
       let z = both (lies sp e W i) (inside sp e (rest W m (i + 1))) (sym (inside-cons i h) ∙ inside-from a i (omega arith)) .0 in
-      leb-true (getD W (i * 4 + 2) 0 + getD W (i * 4 + 3) 0) e (rw s at z)
+      leb-true (getD W (i * 5 + 2) 0 + getD W (i * 5 + 3) 0) e (rw s at z)

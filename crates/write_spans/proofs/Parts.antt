@@ -74,7 +74,7 @@ module _ (src W : List ℕ) (m t e w : ℕ) (unit : 1 ≤ w) (tagged : spanTag t
     pub span-large : lo ≤ r → hi < r → q .off ≡ true → SpanPart
     span-large l h o = span-refused (size-large lo hi r l h) o
 
-    pub span-put : {n : ℕ} → (1 ≤ r → (p .next < m) × (getD W (p .next * 4) 0 ≡ t)) → 1 ≤ lo → lo ≤ r → r ≤ hi → n ≡ width (hi - lo) → Sends (bitOf src) W e w n (r - lo) p X q Y → SpanPart
+    pub span-put : {n : ℕ} → (1 ≤ r → (p .next < m) × (getD W (p .next * 5) 0 ≡ t)) → 1 ≤ lo → lo ≤ r → r ≤ hi → n ≡ width (hi - lo) → Sends (bitOf src) W e w n (r - lo) p X q Y → SpanPart
     unfolding parse encode sizeBits
     span-put {n} i z l h s x =
         let j = i (omega (arith, z, l)) in
@@ -91,14 +91,14 @@ module _ (src W : List ℕ) (m t e w : ℕ) (unit : 1 ≤ w) (tagged : spanTag t
   unfolding parse encode
   any-empty h x = string-none (bitOf src) (bitOf-lt src) W m t e w unit tagged (λ n. ltb n 16384) lengthBits p X q Y on (sym h ∙ counted) refl (length-short 0 (omega arith)) x
 
-  any-put : {n v : ℕ} → (1 ≤ r → (p .next < m) × (getD W (p .next * 4) 0 ≡ t)) → 1 ≤ r → r < 16384 → lengthBits r ≡ bitsOf n v → Sends (bitOf src) W e w n v p X q Y → AnyPart
+  any-put : {n v : ℕ} → (1 ≤ r → (p .next < m) × (getD W (p .next * 5) 0 ≡ t)) → 1 ≤ r → r < 16384 → lengthBits r ≡ bitsOf n v → Sends (bitOf src) W e w n v p X q Y → AnyPart
   unfolding parse encode
   any-put i l h s x =
       let j = i l in
       string-sent (bitOf src) (bitOf-lt src) W m t e w unit tagged (λ n. ltb n 16384) lengthBits p X q Y on (j .0) (j .1) (omega (arith, l, counted)) (rw (← counted) (lt-ltb r 16384 h)) (ap lengthBits (sym counted) ∙ s) x
 
-  pub any-short : (1 ≤ r → (p .next < m) × (getD W (p .next * 4) 0 ≡ t)) → 1 ≤ r → r < 128 → Sends (bitOf src) W e w 8 r p X q Y → AnyPart
+  pub any-short : (1 ≤ r → (p .next < m) × (getD W (p .next * 5) 0 ≡ t)) → 1 ≤ r → r < 128 → Sends (bitOf src) W e w 8 r p X q Y → AnyPart
   any-short i l h x = any-put i l (omega arith) (length-short r h) x
 
-  pub any-long : (1 ≤ r → (p .next < m) × (getD W (p .next * 4) 0 ≡ t)) → 128 ≤ r → r < 16384 → Sends (bitOf src) W e w 16 (32768 + r) p X q Y → AnyPart
+  pub any-long : (1 ≤ r → (p .next < m) × (getD W (p .next * 5) 0 ≡ t)) → 128 ≤ r → r < 16384 → Sends (bitOf src) W e w 16 (32768 + r) p X q Y → AnyPart
   any-long i l h x = any-put i (omega arith) h (length-long r l h) x

@@ -90,7 +90,7 @@ module _ (b : ℕ → ℕ) (bit : (i : ℕ) → b i < 2) (W : List ℕ) (m t e w
       }
 
   -- else the record in front tells its bits
-  pub string-sent : {n v : ℕ} → p .off ≡ false → p .next < m → getD W (p .next * 4) 0 ≡ t → 1 ≤ k → fits k ≡ true → sizeOf k ≡ bitsOf n v → Sends b W e w n v p X q Y → StringWrites
+  pub string-sent : {n v : ℕ} → p .off ≡ false → p .next < m → getD W (p .next * 5) 0 ≡ t → 1 ≤ k → fits k ≡ true → sizeOf k ≡ bitsOf n v → Sends b W e w n v p X q Y → StringWrites
   string-sent {n} {v} h i g c f s x = go (whole W (p .next) e w) refl
     where
       from : ℕ
@@ -99,7 +99,7 @@ module _ (b : ℕ → ℕ) (bit : (i : ℕ) → b i < 2) (W : List ℕ) (m t e w
       many : ℕ
       many = size W p
 
-      there : T (p .next) ≡ bits t (getD W (p .next * 4 + 1) 0) (stretch b from many) ∷ T (p .next + 1)
+      there : T (p .next) ≡ bits t (getD W (p .next * 5 + 1) 0) (stretch b from many) ∷ T (p .next + 1)
       there = span-there b W m (p .next) t i g tagged
 
       count : many / w ≡ k
@@ -117,5 +117,5 @@ module _ (b : ℕ → ℕ) (bit : (i : ℕ) → b i < 2) (W : List ℕ) (m t e w
           writes-got enc (λ R. stringAt fits t e w R) T m p X q Y h r
           (record { on = x .on a; left = ap T (sym (x .takes a)); fits = omega (arith, i, x .takes a); wrote = λ u. let z = x .puts a (omega (arith, u, d)) in (omega (arith, z .0, d), z .1 ∙ rw j) })
       go false a =
-          let r : stringAt fits t e w (T (p .next)) ≡ no = rw there (string-other fits t e w b bit from many (omega (arith, count, c)) (getD W (p .next * 4 + 1) 0) (T (p .next + 1)) unit fit (whole-no W (p .next) e w a)) in
+          let r : stringAt fits t e w (T (p .next)) ≡ no = rw there (string-other fits t e w b bit from many (omega (arith, count, c)) (getD W (p .next * 5 + 1) 0) (T (p .next + 1)) unit fit (whole-no W (p .next) e w a)) in
           writes-none enc (λ R. stringAt fits t e w R) T m p X q Y r (x .refuses a)

@@ -18,14 +18,14 @@ pub record InksStretch (b : ℕ → ℕ) (p : Pen) (X : List ℕ) (from n : ℕ)
 
 -- record i has the element number e, and whole units of w bits
 unfoldable pub whole : List ℕ → ℕ → ℕ → ℕ → Bool
-whole W i e w = eqb (getD W (i * 4 + 1) 0) e && eqb (getD W (i * 4 + 3) 0 % w) 0
+whole W i e w = eqb (getD W (i * 5 + 1) 0) e && eqb (getD W (i * 5 + 3) 0 % w) 0
 
 -- where the next record's span points, and how many bits it has
 abbrev pub first : List ℕ → Pen → ℕ
-first W p = getD W (p .next * 4 + 2) 0
+first W p = getD W (p .next * 5 + 2) 0
 
 abbrev pub size : List ℕ → Pen → ℕ
-size W p = getD W (p .next * 4 + 3) 0
+size W p = getD W (p .next * 5 + 3) 0
 
 -- n bits of v and the span of the next record, which is taken, or else refused
 pub record Sends (b : ℕ → ℕ) (W : List ℕ) (e w n v : ℕ) (p : Pen) (X : List ℕ) (q : Pen) (Y : List ℕ) : Type 0 where

@@ -46,10 +46,10 @@ fn has_bits(src: &[u8], from: u64, n: u64) -> bool
 
 // Whether record i is no span, or one that lies inside.
 fn is_inside(words: &[u64], i: usize, src: &[u8]) -> bool
-    requires { ⌜ (i * 4 + 4 ≤ length (now words)) × (i < 2 ^ 32) ⌝ }
-    ensures { λ r. ⌜ r ≡ (not (spanTag (getD (now (words .entry)) (i * 4) 0)) || leb (getD (now (words .entry)) (i * 4 + 2) 0 + getD (now (words .entry)) (i * 4 + 3) 0) (length (now (src .entry)) * 8)) ⌝ }
+    requires { ⌜ (i * 5 + 5 ≤ length (now words)) × (i < 2 ^ 32) ⌝ }
+    ensures { λ r. ⌜ r ≡ (not (spanTag (getD (now (words .entry)) (i * 5) 0)) || leb (getD (now (words .entry)) (i * 5 + 2) 0 + getD (now (words .entry)) (i * 5 + 3) 0) (length (now (src .entry)) * 8)) ⌝ }
 {
-    let k = i * 4;
+    let k = i * 5;
     if is_span_tag(words[k]) {
         return has_bits(src, words[k + 2], words[k + 3]);
     }
@@ -58,7 +58,7 @@ fn is_inside(words: &[u64], i: usize, src: &[u8]) -> bool
 
 // Whether no span of the m records goes past the slice.
 pub fn spans_inside(words: &[u64], m: usize, src: &[u8]) -> bool
-    requires { ⌜ (m * 4 ≤ length (now words)) × (m < 2 ^ 32) ⌝ }
+    requires { ⌜ (m * 5 ≤ length (now words)) × (m < 2 ^ 32) ⌝ }
     ensures { λ r. ⌜ r ≡ inside spanTag (length (now (src .entry)) * 8) (rest (now (words .entry)) m 0) ⌝ }
 {
     let mut i: usize = 0;

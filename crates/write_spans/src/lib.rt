@@ -32,7 +32,7 @@ pub fn write_span(
     lo: u64,
     hi: u64,
 ) -> Pen
-    requires { ⌜ (m * 4 ≤ length (now words)) × (m < 2 ^ 32) × (length (now src) < 2 ^ 56) × (inside spanTag (length (now src) * 8) (rest (now words) m 0) ≡ true) × (spanTag tag ≡ true) × (1 ≤ w) × (1 ≤ lo) × (lo ≤ hi) ⌝ }
+    requires { ⌜ (m * 5 ≤ length (now words)) × (m < 2 ^ 32) × (length (now src) < 2 ^ 56) × (inside spanTag (length (now src) * 8) (rest (now words) m 0) ≡ true) × (spanTag tag ≡ true) × (1 ≤ w) × (1 ≤ lo) × (lo ≤ hi) ⌝ }
     ensures { λ r. ⌜ ((y : ℕ) → Part (span tag w lo hi) (element, y) (bitOf (now (src .entry))) (now (words .entry)) m p (now (out .entry)) r (now (out .exit))) ⌝ }
 {
     if p.off {
@@ -59,7 +59,7 @@ pub fn write_any_span(
     tag: u64,
     w: u64,
 ) -> Pen
-    requires { ⌜ (m * 4 ≤ length (now words)) × (m < 2 ^ 32) × (length (now src) < 2 ^ 56) × (inside spanTag (length (now src) * 8) (rest (now words) m 0) ≡ true) × (spanTag tag ≡ true) × (1 ≤ w) ⌝ }
+    requires { ⌜ (m * 5 ≤ length (now words)) × (m < 2 ^ 32) × (length (now src) < 2 ^ 56) × (inside spanTag (length (now src) * 8) (rest (now words) m 0) ≡ true) × (spanTag tag ≡ true) × (1 ≤ w) ⌝ }
     ensures { λ r. ⌜ ((y : ℕ) → Part (anySpan tag w) (element, y) (bitOf (now (src .entry))) (now (words .entry)) m p (now (out .entry)) r (now (out .exit))) ⌝ }
 {
     if p.off {

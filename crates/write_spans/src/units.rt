@@ -16,11 +16,11 @@ use pens::refuse;
 
 // How many units of w bits the span in record i, of m, has: none where the record's tag is another.
 pub fn units_at(words: &[u64], m: usize, i: usize, tag: u64, w: u64) -> u64
-    requires { ⌜ (m * 4 ≤ length (now words)) × (m < 2 ^ 32) × (spanTag tag ≡ true) × (1 ≤ w) ⌝ }
-    ensures { λ r. ⌜ ((b : ℕ → ℕ) → r ≡ length (bitsAt tag (items b (now (words .entry)) m i)) / w) × (1 ≤ r → (i < m) × (getD (now (words .entry)) (i * 4) 0 ≡ tag)) ⌝ }
+    requires { ⌜ (m * 5 ≤ length (now words)) × (m < 2 ^ 32) × (spanTag tag ≡ true) × (1 ≤ w) ⌝ }
+    ensures { λ r. ⌜ ((b : ℕ → ℕ) → r ≡ length (bitsAt tag (items b (now (words .entry)) m i)) / w) × (1 ≤ r → (i < m) × (getD (now (words .entry)) (i * 5) 0 ≡ tag)) ⌝ }
 {
     if i < m {
-        let k = i * 4;
+        let k = i * 5;
         if words[k] == tag {
             return words[k + 3] / w;
         }
@@ -30,10 +30,10 @@ pub fn units_at(words: &[u64], m: usize, i: usize, tag: u64, w: u64) -> u64
 
 // Whether record i has this element number, and whole units of w bits.
 fn is_whole(words: &[u64], i: usize, element: u64, w: u64) -> bool
-    requires { ⌜ (i * 4 + 4 ≤ length (now words)) × (i < 2 ^ 32) × (1 ≤ w) ⌝ }
+    requires { ⌜ (i * 5 + 5 ≤ length (now words)) × (i < 2 ^ 32) × (1 ≤ w) ⌝ }
     ensures { λ r. ⌜ r ≡ whole (now (words .entry)) i element w ⌝ }
 {
-    let k = i * 4;
+    let k = i * 5;
     if words[k + 1] == element {
         return words[k + 3] % w == 0;
     }
@@ -68,12 +68,12 @@ pub fn put_whole(
     n: usize,
     v: u64,
 ) -> Pen
-    requires { ⌜ (p .next * 4 + 4 ≤ length (now words)) × (p .next < 2 ^ 32) × (length (now src) < 2 ^ 56) × (getD (now words) (p .next * 4 + 2) 0 + getD (now words) (p .next * 4 + 3) 0 ≤ length (now src) * 8) × (1 ≤ w) × (n ≤ 64) × (v < 2 ^ n) ⌝ }
+    requires { ⌜ (p .next * 5 + 5 ≤ length (now words)) × (p .next < 2 ^ 32) × (length (now src) < 2 ^ 56) × (getD (now words) (p .next * 5 + 2) 0 + getD (now words) (p .next * 5 + 3) 0 ≤ length (now src) * 8) × (1 ≤ w) × (n ≤ 64) × (v < 2 ^ n) ⌝ }
     ensures { λ r. ⌜ Sends (bitOf (now (src .entry))) (now (words .entry)) element w n v p (now (out .entry)) r (now (out .exit)) ⌝ }
 {
     let i = p.next;
     if is_whole(words, i, element, w) {
-        let k = i * 4;
+        let k = i * 5;
         let from = words[k + 2] as usize;
         let size = words[k + 3] as usize;
         let sized = ink(out, p, n, v);

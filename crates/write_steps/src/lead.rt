@@ -34,7 +34,7 @@ pub fn lead(
     y: u64,
     p: Pen,
 ) -> Led
-    requires { ⌜ (m * 4 ≤ length (now words)) × (m < 2 ^ 32) × (1 ≤ length (now down)) × (length (now down) ≤ 256) × (1 ≤ length (now up)) × (length (now up) ≤ 256) × Above (node .kind) × SureLeaf (node .kind) (node .a) (node .b) (node .c) (node .d) (node .e) ⌝ }
+    requires { ⌜ (m * 5 ≤ length (now words)) × (m < 2 ^ 32) × (1 ≤ length (now down)) × (length (now down) ≤ 256) × (1 ≤ length (now up)) × (length (now up) ≤ 256) × Above (node .kind) × SureLeaf (node .kind) (node .a) (node .b) (node .c) (node .d) (node .e) ⌝ }
     ensures { λ r. ⌜ ((F : ℕ → Fmt) (S : ℕ → Bool) (N : List ℕ) (s : ℕ → ℕ) → sureOf F S N (node .kind) (node .a) (node .b) (node .c) (node .d) (node .e) ≡ true → Leads F S N (now (down .entry)) (now (up .entry)) node x y s (now (words .entry)) m p (now (out .entry)) r (now (out .exit))) ⌝ }
 {
     let kind = node.kind;
@@ -106,7 +106,7 @@ fn lent(
     x: u64,
     p: Pen,
 ) -> Led
-    requires { ⌜ (m * 4 ≤ length (now words)) × (m < 2 ^ 32) × (1 ≤ length (now table)) × (length (now table) ≤ 256) × (spanTag tag ≡ false) × (k < 1000000) ⌝ }
+    requires { ⌜ (m * 5 ≤ length (now words)) × (m < 2 ^ 32) × (1 ≤ length (now table)) × (length (now table) ≤ 256) × (spanTag tag ≡ false) × (k < 1000000) ⌝ }
     ensures { λ r. ⌜ ((F : ℕ → Fmt) (y : ℕ) (s : ℕ → ℕ) → LeadsLent F tag k (now (table .entry)) x y s (now (words .entry)) m p (now (out .entry)) r (now (out .exit))) ⌝ }
 {
     let i = write_index(words, m, out, p, x, tag, table.len() as u64);

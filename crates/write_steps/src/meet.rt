@@ -23,7 +23,7 @@ pub struct Met {
 }
 
 pub fn meet(words: &[u64], m: usize, out: &mut [u8], node: Node, x: u64, flag: usize, p: Pen) -> Met
-    requires { ⌜ (m * 4 ≤ length (now words)) × (m < 2 ^ 32) × (flag < 2 ^ 40) × (node .kind ≡ 3 → spanTag (node .a) ≡ false) ⌝ }
+    requires { ⌜ (m * 5 ≤ length (now words)) × (m < 2 ^ 32) × (flag < 2 ^ 40) × (node .kind ≡ 3 → spanTag (node .a) ≡ false) ⌝ }
     ensures { λ r. ⌜ ((F : ℕ → Fmt) (S : ℕ → Bool) (fs : Flds) (y : ℕ) (s : ℕ → ℕ) → sureMember F S (node .kind) (node .a) (node .b) (node .c) (node .d) ≡ true → Meets F S fs node x y s (now (words .entry)) m flag p (now (out .entry)) r (now (out .exit))) × (r .flag ≤ flag + 1) ⌝ }
 {
     let kind = node.kind;

@@ -137,14 +137,14 @@ value-of b u f w r t e x k h = go (spanTag u) h
     go false q = cc
 
 -- the record at the front of a list that begins with an item
-front-value : (b : ℕ → ℕ) (W : List ℕ) (m i t e x k : ℕ) (S : List Item) → items b W m i ≡ plain t e x k ∷ S → (i < m) × (getD W (i * 4 + 2) 0 ≡ x) × (items b W m (suc i) ≡ S)
+front-value : (b : ℕ → ℕ) (W : List ℕ) (m i t e x k : ℕ) (S : List Item) → items b W m i ≡ plain t e x k ∷ S → (i < m) × (getD W (i * 5 + 2) 0 ≡ x) × (items b W m (suc i) ≡ S)
 front-value b W m i t e x k S h = go (ltb i m) refl
   where
-    go : (a : Bool) → ltb i m ≡ a → (i < m) × (getD W (i * 4 + 2) 0 ≡ x) × (items b W m (suc i) ≡ S)
+    go : (a : Bool) → ltb i m ≡ a → (i < m) × (getD W (i * 5 + 2) 0 ≡ x) × (items b W m (suc i) ≡ S)
     go true q =
         let l : i < m = ltb-true i m q in
         let z = sym (items-cons b W m i l) ∙ h in
-        (l, value-of b (getD W (i * 4) 0) (getD W (i * 4 + 1) 0) (getD W (i * 4 + 2) 0) (getD W (i * 4 + 3) 0) t e x k (cc), cc)
+        (l, value-of b (getD W (i * 5) 0) (getD W (i * 5 + 1) 0) (getD W (i * 5 + 2) 0) (getD W (i * 5 + 3) 0) t e x k (cc), cc)
     go false q = let z = sym (items-end b W m i (ltb-false i m q)) ∙ h in let y : _≡_ {A = ℕ} 0 1 = cc in absurd (omega arith)
 
 all-drop : (k : ℕ) (us : List ℕ) → All (λ c. c < 11) us → All (λ c. c < 11) (drop k us)
@@ -156,7 +156,7 @@ few : (us : List ℕ) → All (λ c. c < 11) us → All (λ c. c < 16) us
 few [] a = tt
 few (u ∷ us) a = (omega (arith, a .0), few us (a .1))
 
-module _ (b : ℕ → ℕ) (W : List ℕ) (m i t e w x : ℕ) (p : i + 0 < m → w ≡ getD W ((i + 0) * 4 + 2) 0) (q : i + 1 < m → x ≡ getD W ((i + 1) * 4 + 2) 0) where
+module _ (b : ℕ → ℕ) (W : List ℕ) (m i t e w x : ℕ) (p : i + 0 < m → w ≡ getD W ((i + 0) * 5 + 2) 0) (q : i + 1 < m → x ≡ getD W ((i + 1) * 5 + 2) 0) where
   pub linked : (v : List ℕ) (S : List Item) → length v ≡ 12 → All (λ c. c < 11) v → items b W m i ≡ spelt t e (coded 48 v) ++ S → (spacedOctets 8 w ≡ octets 8 (spaced v)) × (spacedOctets 8 x ≡ octets 8 (drop 8 (spaced v)))
   linked v S l a h =
       let z : items b W m i ≡ plain t e (octets 8 (coded 48 v)) 12 ∷ plain t e (octets 8 (drop 8 (coded 48 v))) 12 ∷ S = h ∙ ap (λ (P : List Item). P ++ S) (two t e (coded 48 v) (length-coded 48 v ∙ l)) in

@@ -23,7 +23,7 @@ abbrev enc : ℕ → List ℕ → List ℕ
 enc t v = encode (typeOf (text t 11 (first 48) 12 12)) v
 
 module _ (t u e y : ℕ) (b : ℕ → ℕ) (W : List ℕ) (m : ℕ) (p q h r : Pen) (X Y : List ℕ) (w x : ℕ) {f g : ℕ} (f-is : f ≡ spacedOctets 8 w) (g-is : g ≡ spacedOctets 8 x) where
-  pub channel-written : (p .next + 0 < m → w ≡ getD W ((p .next + 0) * 4 + 2) 0) → (p .next + 1 < m → x ≡ getD W ((p .next + 1) * 4 + 2) 0)
+  pub channel-written : (p .next + 0 < m → w ≡ getD W ((p .next + 0) * 5 + 2) 0) → (p .next + 1 < m → x ≡ getD W ((p .next + 1) * 5 + 2) 0)
       → Part (text t 11 (first 48) 12 12) (e, y) b W m p X q Y → Met u e b W m Y f q h → Met u e b W m Y g h r → Part (text t 11 (numeric u) 12 12) (e, y) b W m p X r Y
   channel-written k l one front rear =
       let T : ℕ → List Item = λ i. items b W m i in

@@ -35,7 +35,7 @@ module _ (t e n c s : ℕ) where
       go false = refl
 
   module _ (b : ℕ → ℕ) (W : List ℕ) (m : ℕ) where
-    pub record-in : (j w : ℕ) (p q r : Pen) (X Y Z : List ℕ) → p .next < m → w ≡ getD W (p .next * 4 + 2) 0
+    pub record-in : (j w : ℕ) (p q r : Pen) (X Y Z : List ℕ) → p .next < m → w ≡ getD W (p .next * 5 + 2) 0
         → Writes (λ _. []) (λ R. peel (plain t e w s ∷ []) zero R) (λ i. items b W m i) m p X q Y
         → Writes (λ us. unitBits n us) (λ R. inWord n c j 8 w R) (λ i. items b W m i) m q Y r Z
         → Writes (λ us. unitBits n us) (λ R. inRecord t e n c s j R) (λ i. items b W m i) m p X r Z

@@ -50,7 +50,7 @@ none-size t e c k v S l h = go ((length (coded c v) + 7) / 8) (omega (arith, len
     go (suc i) y q = let z : _≡_ {A = ℕ} 0 1 = cc in absurd (omega arith)
 
 module _ (t e y n c lo hi : ℕ) (l : 1 ≤ lo) (h : c + n ≤ 256) (b : ℕ → ℕ) (W : List ℕ) (m : ℕ) (p : Pen) (X : List ℕ) where
-  sized : p .next < m → (v : List ℕ) (S : List Item) → 1 ≤ length v → items b W m (p .next) ≡ spelt t e (coded c v) ++ S → length v ≡ getD W (p .next * 4 + 3) 0
+  sized : p .next < m → (v : List ℕ) (S : List Item) → 1 ≤ length v → items b W m (p .next) ≡ spelt t e (coded c v) ++ S → length v ≡ getD W (p .next * 5 + 3) 0
   sized d v S o z = front-size b _ _ _ _ t e c _ v S o (sym (items-cons b W m (p .next) d) ∙ z)
 
   pub text-lacks : (r : Pen) (Z : List ℕ) → m ≤ p .next → r .off ≡ true → Part (text t n (first c) lo hi) (e, y) b W m p X r Z
@@ -58,17 +58,17 @@ module _ (t e y n c lo hi : ℕ) (l : 1 ≤ lo) (h : c + n ≤ 256) (b : ℕ →
       writes-none _ (λ R. parse (text t n (first c) lo hi) (e, y) R) (λ i. items b W m i) m p X r Z
       (other-size t e y n c lo hi l h _ 0 (λ v S q z. none-size t e c 0 v S q (sym (items-end b W m (p .next) d) ∙ z)) (λ z. omega (arith, l, z .0))) o
 
-  pub text-sized-otherwise : (r : Pen) (Z : List ℕ) → p .next < m → ((lo ≤ getD W (p .next * 4 + 3) 0) × (getD W (p .next * 4 + 3) 0 ≤ hi) → ⊥) → r .off ≡ true → Part (text t n (first c) lo hi) (e, y) b W m p X r Z
+  pub text-sized-otherwise : (r : Pen) (Z : List ℕ) → p .next < m → ((lo ≤ getD W (p .next * 5 + 3) 0) × (getD W (p .next * 5 + 3) 0 ≤ hi) → ⊥) → r .off ≡ true → Part (text t n (first c) lo hi) (e, y) b W m p X r Z
   text-sized-otherwise r Z d f o = writes-none _ (λ R. parse (text t n (first c) lo hi) (e, y) R) (λ i. items b W m i) m p X r Z (other-size t e y n c lo hi l h _ _ (sized d) f) o
 
   -- the size, then the records
-  pub text-written : (q r : Pen) (Y Z : List ℕ) (w : ℕ) → w ≡ width (hi - lo) → p .next < m → lo ≤ getD W (p .next * 4 + 3) 0 → getD W (p .next * 4 + 3) 0 ≤ hi
-      → Inks p X w (getD W (p .next * 4 + 3) 0 - lo) q Y
-      → Writes (λ us. unitBits n us) (λ R. inRecords t e n c (getD W (p .next * 4 + 3) 0) ((getD W (p .next * 4 + 3) 0 + 7) / 8) (getD W (p .next * 4 + 3) 0) R) (λ i. items b W m i) m q Y r Z
+  pub text-written : (q r : Pen) (Y Z : List ℕ) (w : ℕ) → w ≡ width (hi - lo) → p .next < m → lo ≤ getD W (p .next * 5 + 3) 0 → getD W (p .next * 5 + 3) 0 ≤ hi
+      → Inks p X w (getD W (p .next * 5 + 3) 0 - lo) q Y
+      → Writes (λ us. unitBits n us) (λ R. inRecords t e n c (getD W (p .next * 5 + 3) 0) ((getD W (p .next * 5 + 3) 0 + 7) / 8) (getD W (p .next * 5 + 3) 0) R) (λ i. items b W m i) m q Y r Z
       → Part (text t n (first c) lo hi) (e, y) b W m p X r Z
   unfolding feed encode sizeBits
   text-written q r Y Z w a d f g i x =
-      let k = getD W (p .next * 4 + 3) 0 in
+      let k = getD W (p .next * 5 + 3) 0 in
       let both = then-writes (λ _. bitsOf w (k - lo)) (λ us. unitBits n us) (λ us. bitsOf w (k - lo) ++ unitBits n us) (λ R. got (k - lo) R) _ (λ _ us. us) (λ _ us. refl) (λ j. items b W m j) m p q r X Y Z (writes-ink (λ _. bitsOf w (k - lo)) (k - lo) w (k - lo) refl (λ j. items b W m j) m p X q Y i) x in
       writes-as _ _ _ (λ R. parse (text t n (first c) lo hi) (e, y) R) (λ j. items b W m j) m p X r Z
       (turn-same _ ∙ sym (good-size t e y n c lo hi l h _ k (sized d) f g))

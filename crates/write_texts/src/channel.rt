@@ -20,7 +20,7 @@ pub fn write_channel(
     tag: u64,
     x691: u64,
 ) -> Pen
-    requires { ⌜ (m * 4 ≤ length (now words)) × (m < 2 ^ 32) × (spanTag tag ≡ false) × (spanTag x691 ≡ false) ⌝ }
+    requires { ⌜ (m * 5 ≤ length (now words)) × (m < 2 ^ 32) × (spanTag tag ≡ false) × (spanTag x691 ≡ false) ⌝ }
     ensures { λ r. ⌜ ((b : ℕ → ℕ) (y : ℕ) → Part (text tag 11 (numeric x691) 12 12) (element, y) b (now (words .entry)) m p (now (out .entry)) r (now (out .exit))) ⌝ }
 {
     let i = p.next;
@@ -33,13 +33,13 @@ pub fn write_channel(
 
 // The value of the record k behind record i, of m; 0 where there is none.
 fn value_behind(words: &[u64], m: usize, i: usize, k: usize) -> u64
-    requires { ⌜ (m * 4 ≤ length (now words)) × (m < 2 ^ 32) × (k ≤ 1) ⌝ }
-    ensures { λ r. ⌜ (i + k < m → r ≡ getD (now (words .entry)) ((i + k) * 4 + 2) 0) ⌝ }
+    requires { ⌜ (m * 5 ≤ length (now words)) × (m < 2 ^ 32) × (k ≤ 1) ⌝ }
+    ensures { λ r. ⌜ (i + k < m → r ≡ getD (now (words .entry)) ((i + k) * 5 + 2) 0) ⌝ }
 {
     if i < m {
         let j = i + k;
         if j < m {
-            return words[j * 4 + 2];
+            return words[j * 5 + 2];
         }
     }
     0

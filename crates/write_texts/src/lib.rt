@@ -28,14 +28,14 @@ pub fn write_text(
     lo: u64,
     hi: u64,
 ) -> Pen
-    requires { ⌜ (m * 4 ≤ length (now words)) × (m < 2 ^ 32) × (spanTag tag ≡ false) × (1 ≤ lo) × (1 ≤ n) × (c + n ≤ 256) × (lo ≤ hi) ⌝ }
+    requires { ⌜ (m * 5 ≤ length (now words)) × (m < 2 ^ 32) × (spanTag tag ≡ false) × (1 ≤ lo) × (1 ≤ n) × (c + n ≤ 256) × (lo ≤ hi) ⌝ }
     ensures { λ r. ⌜ ((b : ℕ → ℕ) (y : ℕ) → Part (text tag n (first c) lo hi) (element, y) b (now (words .entry)) m p (now (out .entry)) r (now (out .exit))) ⌝ }
 {
     let i = p.next;
     if m <= i {
         return refuse(p);
     }
-    let size = words[i * 4 + 3];
+    let size = words[i * 5 + 3];
     if size < lo {
         return refuse(p);
     }

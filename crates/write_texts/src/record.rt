@@ -26,14 +26,14 @@ fn write_record(
     size: u64,
     k: u64,
 ) -> Pen
-    requires { ⌜ (m * 4 ≤ length (now words)) × (m < 2 ^ 32) × (spanTag tag ≡ false) × (1 ≤ n) × (k ≤ 8) ⌝ }
+    requires { ⌜ (m * 5 ≤ length (now words)) × (m < 2 ^ 32) × (spanTag tag ≡ false) × (1 ≤ n) × (k ≤ 8) ⌝ }
     ensures { λ r. ⌜ ((b : ℕ → ℕ) → Writes (λ us. unitBits n us) (λ R. inRecord tag element n c size k R) (λ i. items b (now (words .entry)) m i) m p (now (out .entry)) r (now (out .exit))) ⌝ }
 {
     let i = p.next;
     if m <= i {
         return refuse(p);
     }
-    let w = words[i * 4 + 2];
+    let w = words[i * 5 + 2];
     let q = take(words, m, p, tag, element, w, size);
     write_word(out, q, w, k, n, c)
 }
@@ -60,7 +60,7 @@ pub fn write_records(
     c: u64,
     size: u64,
 ) -> Pen
-    requires { ⌜ (m * 4 ≤ length (now words)) × (m < 2 ^ 32) × (spanTag tag ≡ false) × (1 ≤ n) ⌝ }
+    requires { ⌜ (m * 5 ≤ length (now words)) × (m < 2 ^ 32) × (spanTag tag ≡ false) × (1 ≤ n) ⌝ }
     ensures { λ r. ⌜ ((b : ℕ → ℕ) → Writes (λ us. unitBits n us) (λ R. inRecords tag element n c size ((size + 7) / 8) size R) (λ i. items b (now (words .entry)) m i) m p (now (out .entry)) r (now (out .exit))) ⌝ }
 {
     let mut q = p;

@@ -3,7 +3,7 @@ use native.Mathlib.Omega.{arith}
 use lib.Pow.{pow-pos}
 use borrow.Author.Needs.{needs}
 use borrow.Author.Tests.{not-true}
-use Rattle.fixture_writer.proofs.WriterLaws.{says-2, says-3, says-8-kind, says-8-fours, says-8-many, says-8-bytes, says-8-span, says-8-off, says-8-left, says-9, says-wrote, kind-of, table-sizes, lent-list, small-run, not-off}
+use Rattle.fixture_writer.proofs.WriterLaws.{says-2, says-3, says-8-kind, says-8-fives, says-8-many, says-8-bytes, says-8-span, says-8-off, says-8-left, says-9, says-wrote, kind-of, table-sizes, lent-list, small-run, not-off}
 use Rattle.fixture_writer.proofs.write_message.Statement.{statement}
 use Rattle.fixture_writer.proofs.write_message.Tie as tie
 use Rattle.fixture_writer.proofs.write_message.Reads as reads
@@ -56,7 +56,7 @@ refused-requires-4 c κs = search needs
 returns-4 : tie.Need-returns-4
 returns-4 c =
     let e = c .before .before .before .before .before .before .before .before .before .before .before in
-    says-8-fours (e .args .kind) (e .args .direction) (e .args .down .now) (e .args .up .now) (e .args .words .now) (e .args .src .now) (e .args .out .now) (c .before .before .before .before .before .tables-fit .result) (c .before .before .before .before .before .tables-fit .ensures) (not-off _ (c .before .before .before .before .if1 .left)) (c .before .before .before .if2 .left) _ (c .before .before .if3 .left) (c .before .if4 .taken) (c .refused4 .ensures)
+    says-8-fives (e .args .kind) (e .args .direction) (e .args .down .now) (e .args .up .now) (e .args .words .now) (e .args .src .now) (e .args .out .now) (c .before .before .before .before .before .tables-fit .result) (c .before .before .before .before .before .tables-fit .ensures) (not-off _ (c .before .before .before .before .if1 .left)) (c .before .before .before .if2 .left) _ (c .before .before .if3 .left) (c .before .if4 .taken) (c .refused4 .ensures)
 
 -- src/lib.rt:61:9
 refused-requires-5 : tie.Need-refused-requires-5
