@@ -34,9 +34,10 @@ pub one : Ans → Written
 unfolding only valuesOf of-reply reply stopped
 one a = of-reply (λ R m. only (valuesOf 0 R) m) (reply a)
 
-pub one-told : (p v m : ℕ) → one (ok p (rec 0 0 v 0 0 ∷ []) m) ≡ is v m
+-- wherever it started
+pub one-told : (p v q m : ℕ) → one (ok p (rec 0 0 v 0 q ∷ []) m) ≡ is v m
 unfolding one only valuesOf of-reply reply
-one-told p v m = refl
+one-told p v q m = refl
 
 pub one-out : (k p m : ℕ) (R : List Rec) → one (stop (out k) p R m) ≡ other
 unfolding one of-reply reply stopped
