@@ -59,12 +59,12 @@ onward : (d : List ℕ) (j : ℕ) (R : List Rec) → length d ≤ top → place 
 unfolding counted
 onward d j R c = let e : j + 1 ≡ suc j = omega arith in rw e (place-capped d (suc j) R c)
 
-module _ (s : List ℕ) (t at len : ℕ) where
+module _ (s : List ℕ) (t start at len : ℕ) where
   -- those of the characters from i on
   abbrev pub rest : ℕ → List Rec
-  rest i = packs t 0 len ((len - i + 7) / 8) (units (bitOf s) 7 (at + i * 7) (len - i))
+  rest i = packs t 0 start len ((len - i + 7) / 8) (units (bitOf s) 7 (at + i * 7) (len - i))
 
-  rest-next : (i : ℕ) → i < len → rest i ≡ rec t 0 (octets 8 (units (bitOf s) 7 (at + i * 7) (len - i))) len ∷ rest (i + 8)
+  rest-next : (i : ℕ) → i < len → rest i ≡ rec t 0 (octets 8 (units (bitOf s) 7 (at + i * 7) (len - i))) len start ∷ rest (i + 8)
   unfolding packs
   rest-next i h =
       let e : (len - i + 7) / 8 ≡ suc ((len - (i + 8) + 7) / 8) = omega arith in
@@ -76,7 +76,7 @@ module _ (s : List ℕ) (t at len : ℕ) where
   unfolding packs
   rest-none i h = let e : (len - i + 7) / 8 ≡ 0 = omega arith in rw e
 
-  rest-all : rest 0 ≡ pack t 0 (units (bitOf s) 7 at len)
+  rest-all : rest 0 ≡ pack t 0 start (units (bitOf s) 7 at len)
   unfolding pack
   rest-all =
       let e : at + 0 * 7 ≡ at = omega arith in
@@ -92,19 +92,19 @@ module _ (s : List ℕ) (t at len : ℕ) where
   pub upto-none : {w : List ℕ} {n : ℕ} → Upto w w n n 0
   upto-none = record { count = refl; words = refl; room = refl }
 
-  pub upto-more : {w w′ w″ : List ℕ} {n m l i v k : ℕ} → length w ≤ top → i < len → k ≤ 8 → k ≤ len - i → (k < 8 → k ≡ len - i) → Upto w w′ n m i → v ≡ octets 8 (units (bitOf s) 7 (at + i * 7) k) → Put w′ w″ m l (rec t 0 v len) → Upto w w″ n l (i + 8)
+  pub upto-more : {w w′ w″ : List ℕ} {n m l i v k : ℕ} → length w ≤ top → i < len → k ≤ 8 → k ≤ len - i → (k < 8 → k ≡ len - i) → Upto w w′ n m i → v ≡ octets 8 (units (bitOf s) 7 (at + i * 7) k) → Put w′ w″ m l (rec t 0 v len start) → Upto w w″ n l (i + 8)
   unfolding place
   upto-more {w} {w′} {w″} {n} {m} {l} {i} {v} {k} b h x y z u e p =
       let f : v ≡ octets 8 (units (bitOf s) 7 (at + i * 7) (len - i)) = e ∙ octets-eight (bitOf s) 7 (at + i * 7) (len - i) k x y z in
-      let g : rest i ≡ rec t 0 v len ∷ rest (i + 8) = rest-next i h ∙ rw (← f) in
-      let r : length w″ ≡ length w = ap length (p .words) ∙ one-length w′ m (rec t 0 v len) ∙ u .room in
+      let g : rest i ≡ rec t 0 v len start ∷ rest (i + 8) = rest-next i h ∙ rw (← f) in
+      let r : length w″ ≡ length w = ap length (p .words) ∙ one-length w′ m (rec t 0 v len start) ∙ u .room in
       record {
         count = rw (p .count) (counted-then m 1 (length (rest (i + 8))) ∙ (let q : counted m (length (rest i)) ≡ counted m (1 + length (rest (i + 8))) = ap (λ R. counted m (length R)) g ∙ ap (counted m) (omega arith) in sym q ∙ u .count));
         words = rw (p .count) (onward w″ m (rest (i + 8)) (rw r b) ∙ ap (λ d. place d (suc m) (rest (i + 8))) (p .words) ∙ sym (ap (λ R. place w′ m R) g) ∙ u .words);
         room = r;
       }
 
-  pub upto-all : {w w′ : List ℕ} {n m i : ℕ} → m ≤ top → len ≤ i → Upto w w′ n m i → Placed w w′ n m (pack t 0 (units (bitOf s) 7 at len))
+  pub upto-all : {w w′ : List ℕ} {n m i : ℕ} → m ≤ top → len ≤ i → Upto w w′ n m i → Placed w w′ n m (pack t 0 start (units (bitOf s) 7 at len))
   unfolding place
   upto-all {w} {w′} {n} {m} {i} b h u =
       let e = rest-none i h in
@@ -115,18 +115,18 @@ module _ (s : List ℕ) (t at len : ℕ) where
 
 ---------------------------------------------------------------- eight characters as one number
 
-pub spare-frame : (s : List ℕ) (at k : ℕ) → at + k * 7 ≤ length s * 8 → at + k * 7 < 2 ^ 32 → InFrame 7 s (record { at = at; len = k })
+pub spare-frame : (s : List ℕ) (at k : ℕ) → at + k * 7 ≤ length s * 8 → at + k * 7 < 2 ^ 32 → InFrame 7 s (record { from = at; at = at; len = k })
 spare-frame s at k h g = record { there = h; fits = omega arith }
 
 -- what is told of up to eight characters is one record, whose third word they are
-pub spare-eight : (s : List ℕ) (at k : ℕ) {w w′ : List ℕ} {m : ℕ} → 1 ≤ k → k ≤ 8 → length w ≡ 4 → Told 64 w w′ 0 m (textRecs 0 0 s (record { at = at; len = k })) → getD w′ 2 0 ≡ octets 8 (units (bitOf s) 7 at k)
+pub spare-eight : (s : List ℕ) (at k : ℕ) {w w′ : List ℕ} {m : ℕ} → 1 ≤ k → k ≤ 8 → length w ≡ 5 → Told 64 w w′ 0 m (textRecs 0 0 s (record { from = at; at = at; len = k })) → getD w′ 2 0 ≡ octets 8 (units (bitOf s) 7 at k)
 unfolding textRecs pack packs flat space size need
 spare-eight s at k {w} {w′} {m} l h e t =
     let us : List ℕ = units (bitOf s) 7 at k in
     let n : length us ≡ k = units-length (bitOf s) 7 at k in
     let one : (k + 7) / 8 ≡ 1 = omega arith in
-    let r : pack 0 0 us ≡ rec 0 0 (octets 8 us) k ∷ [] = rw (n, one) in
+    let r : pack 0 0 at us ≡ rec 0 0 (octets 8 us) k at ∷ [] = rw (n, one) in
     let c : m ≡ 1 = t .count ∙ ap (λ R. 0 + length R) r in
-    let f : take (space m) w′ ≡ flat (pack 0 0 us) = told-first t (rw (c, e) (omega arith)) in
-    let g : take 4 w′ ≡ 0 ∷ 0 ∷ octets 8 us ∷ k ∷ [] = (rw c at f) ∙ ap flat r in
-    sym (getD-take 4 w′ 2 0 (omega arith)) ∙ ap (λ d. getD d 2 0) g
+    let f : take (space m) w′ ≡ flat (pack 0 0 at us) = told-first t (rw (c, e) (omega arith)) in
+    let g : take 5 w′ ≡ 0 ∷ 0 ∷ octets 8 us ∷ k ∷ at ∷ [] = (rw c at f) ∙ ap flat r in
+    sym (getD-take 5 w′ 2 0 (omega arith)) ∙ ap (λ d. getD d 2 0) g

@@ -50,24 +50,24 @@ module _ {s : List ℕ} {a : Step} (o : Open s a) (t lo hi d n : ℕ) (g : Got) 
   w-is = sym (q ∙ ap width e)
 
   abbrev after : ℕ → Ans
-  after v = ok (a .c .at + n) (rec t 0 (word (lo + v)) 0 ∷ []) (over (extent lo hi) v)
+  after v = ok (a .c .at + n) (rec t 0 (word (lo + v)) 0 (a .c .at) ∷ []) (over (extent lo hi) v)
 
   pub number-short : {w : List ℕ} → (g .c .why ≡ 0 → ⊥) → Came (read (num t lo hi) (0, 0) (bitOf s) (a .c .end) (a .c .at)) a w (at (g .c) (a .n)) w
   unfolding read
   number-short h = rw w-is (came-short o n g p after h)
 
-  number-as : {c : Cursor} {k u : ℕ} {w w′ : List ℕ} → g .c .why ≡ 0 → c ≡ put (g .c) (g .c .at) 0 (or (g .c .marks) (over (extent lo hi) (g .v))) → u ≡ (lo + g .v) % 2 ^ 64 → Put w w′ (a .n) k (rec t 0 u 0)
+  number-as : {c : Cursor} {k u : ℕ} {w w′ : List ℕ} → g .c .why ≡ 0 → c ≡ put (g .c) (g .c .at) 0 (or (g .c .marks) (over (extent lo hi) (g .v))) → u ≡ (lo + g .v) % 2 ^ 64 → Put w w′ (a .n) k (rec t 0 u 0 (a .c .at))
       → Came (read (num t lo hi) (0, 0) (bitOf s) (a .c .end) (a .c .at)) a w (at c k) w′
   unfolding read word
   number-as z i u h =
       let y = there o n g p z in
-      rw w-is (came-pull o n g p after z (came-told (over (extent lo hi) (g .v)) (rec t 0 (word (lo + g .v)) 0) (rw (y .cursor) (y .room)) (i ∙ rw (y .cursor)) (rw u at h)))
+      rw w-is (came-pull o n g p after z (came-told (over (extent lo hi) (g .v)) (rec t 0 (word (lo + g .v)) 0 (a .c .at)) (rw (y .cursor) (y .room)) (i ∙ rw (y .cursor)) (rw u at h)))
 
-  pub number-over : {c : Cursor} {k u : ℕ} {w w′ : List ℕ} → g .c .why ≡ 0 → d < g .v → c ≡ marked (g .c) 1 → u ≡ (lo + g .v) % 2 ^ 64 → Put w w′ (a .n) k (rec t 0 u 0)
+  pub number-over : {c : Cursor} {k u : ℕ} {w w′ : List ℕ} → g .c .why ≡ 0 → d < g .v → c ≡ marked (g .c) 1 → u ≡ (lo + g .v) % 2 ^ 64 → Put w w′ (a .n) k (rec t 0 u 0 (a .c .at))
       → Came (read (num t lo hi) (0, 0) (bitOf s) (a .c .end) (a .c .at)) a w (at c k) w′
   number-over z l i u h = number-as z (goes-marked (g .c) 1 z i ∙ rw (over-above (extent lo hi) (g .v) (rw e at l))) u h
 
-  pub number-in : {k u : ℕ} {w w′ : List ℕ} → g .c .why ≡ 0 → g .v ≤ d → u ≡ (lo + g .v) % 2 ^ 64 → Put w w′ (a .n) k (rec t 0 u 0)
+  pub number-in : {k u : ℕ} {w w′ : List ℕ} → g .c .why ≡ 0 → g .v ≤ d → u ≡ (lo + g .v) % 2 ^ 64 → Put w w′ (a .n) k (rec t 0 u 0 (a .c .at))
       → Came (read (num t lo hi) (0, 0) (bitOf s) (a .c .end) (a .c .at)) a w (at (g .c) k) w′
   number-in z l u h = number-as z (goes-unmarked (g .c) z ∙ rw (over-in (extent lo hi) (g .v) (rw e at l))) u h
 
@@ -78,7 +78,7 @@ module _ {s : List ℕ} {a : Step} (o : Open s a) (t hi n : ℕ) (g : Got) (b : 
   name-width = sym (q ∙ ap width (from-zero hi b))
 
   abbrev named : ℕ → Ans
-  named v = guard (leb v (extent 0 hi)) (a .c .at + n) (mark 1) (ok (a .c .at + n) (rec t 0 v 0 ∷ []) 0)
+  named v = guard (leb v (extent 0 hi)) (a .c .at + n) (mark 1) (ok (a .c .at + n) (rec t 0 v 0 (a .c .at) ∷ []) 0)
 
   pub name-short : {w : List ℕ} → (g .c .why ≡ 0 → ⊥) → Came (read (name t hi) (0, 0) (bitOf s) (a .c .end) (a .c .at)) a w (at (g .c) (a .n)) w
   unfolding read
@@ -94,11 +94,11 @@ module _ {s : List ℕ} {a : Step} (o : Open s a) (t hi n : ℕ) (g : Got) (b : 
       (came-pull o n g p named z
       (rw (lt-leb (g .v) (extent 0 hi) x) (came-stopped bad (mark 1) (λ f. omega arith) (rw (y .cursor) (y .room)) (rw u refl) (rw (u, y .cursor) refl) refl)))
 
-  pub name-in : {k : ℕ} {w w′ : List ℕ} → g .c .why ≡ 0 → g .v ≤ hi → Put w w′ (a .n) k (rec t 0 (g .v) 0) → Came (read (name t hi) (0, 0) (bitOf s) (a .c .end) (a .c .at)) a w (at (g .c) k) w′
+  pub name-in : {k : ℕ} {w w′ : List ℕ} → g .c .why ≡ 0 → g .v ≤ hi → Put w w′ (a .n) k (rec t 0 (g .v) 0 (a .c .at)) → Came (read (name t hi) (0, 0) (bitOf s) (a .c .end) (a .c .at)) a w (at (g .c) k) w′
   unfolding read guard
   name-in z l h =
       let y = there o n g p z in
       let x : g .v ≤ extent 0 hi = rw (from-zero hi b) at l in
       rw name-width
       (came-pull o n g p named z
-      (rw (le-leb (g .v) (extent 0 hi) x) (came-told 0 (rec t 0 (g .v) 0) (rw (y .cursor) (y .room)) (goes-unmarked (g .c) z ∙ rw (y .cursor)) h)))
+      (rw (le-leb (g .v) (extent 0 hi) x) (came-told 0 (rec t 0 (g .v) 0 (a .c .at)) (rw (y .cursor) (y .room)) (goes-unmarked (g .c) z ∙ rw (y .cursor)) h)))

@@ -37,7 +37,7 @@ size-fixed b e at n k l =
     rw z (pull-go b e at 0 _ o ∙ rw (add-zero at, add-zero n, over-in n n (omega arith)) (then-nil at (k n)))
 
 module _ {s : List ℕ} {a : Step} (o : Open s a) (t n : ℕ) where
-  bits-read : read (span t 1 n n) (0, 0) (bitOf s) (a .c .end) (a .c .at) ≡ pull (bitOf s) (a .c .end) (a .c .at) n (λ _. ok (a .c .at + n) (spanned t 0 (a .c .at) n) 0)
+  bits-read : read (span t 1 n n) (0, 0) (bitOf s) (a .c .end) (a .c .at) ≡ pull (bitOf s) (a .c .end) (a .c .at) n (λ _. ok (a .c .at + n) (spanned t 0 (a .c .at) (a .c .at) n) 0)
   unfolding read
   bits-read = size-fixed (bitOf s) (a .c .end) (a .c .at) n _ (o .inside .0) ∙ rw (mul-one n)
 
@@ -48,14 +48,14 @@ module _ {s : List ℕ} {a : Step} (o : Open s a) (t n : ℕ) where
       let u : c ≡ put (a .c) (a .c .at) (number (out (a .c .at + n - a .c .end))) (or (a .c .marks) 0) = e ∙ rw (eq-eqb (a .c .why) 0 (o .goes), r, k) in
       came-same (bits-read ∙ pull-no (bitOf s) (a .c .end) (a .c .at) n _ (omega (arith, o .inside .0))) (came-stopped (out (a .c .at + n - a .c .end)) 0 (λ f. omega (arith, f)) (o .inside .0) (rw u refl) (rw u refl) refl)
 
-  pub bits-there : {c : Cursor} {k : ℕ} {w w′ : List ℕ} → 1 ≤ n → n ≤ a .c .end - a .c .at → c ≡ put (a .c) (a .c .at + n) 0 (a .c .marks) → Put w w′ (a .n) k (rec t 0 (a .c .at) n)
+  pub bits-there : {c : Cursor} {k : ℕ} {w w′ : List ℕ} → 1 ≤ n → n ≤ a .c .end - a .c .at → c ≡ put (a .c) (a .c .at + n) 0 (a .c .marks) → Put w w′ (a .n) k (rec t 0 (a .c .at) n (a .c .at))
       → Came (read (span t 1 n n) (0, 0) (bitOf s) (a .c .end) (a .c .at)) a w (at c k) w′
   unfolding spanned
   bits-there l m e h =
       let x : a .c .at + n ≤ a .c .end = omega (arith, o .inside .0) in
       let f : n ≡ suc (n - 1) = omega arith in
-      let g : spanned t 0 (a .c .at) n ≡ rec t 0 (a .c .at) n ∷ [] = ap (λ j. spanned t 0 (a .c .at) j) f ∙ ap (λ j. rec t 0 (a .c .at) j ∷ []) (sym f) in
-      came-same (bits-read ∙ pull-go (bitOf s) (a .c .end) (a .c .at) n _ x ∙ rw g) (came-told 0 (rec t 0 (a .c .at) n) x (e ∙ rw (or-nil (a .c .marks))) h)
+      let g : spanned t 0 (a .c .at) (a .c .at) n ≡ rec t 0 (a .c .at) n (a .c .at) ∷ [] = ap (λ j. spanned t 0 (a .c .at) (a .c .at) j) f ∙ ap (λ j. rec t 0 (a .c .at) j (a .c .at) ∷ []) (sym f) in
+      came-same (bits-read ∙ pull-go (bitOf s) (a .c .end) (a .c .at) n _ x ∙ rw g) (came-told 0 (rec t 0 (a .c .at) n (a .c .at)) x (e ∙ rw (or-nil (a .c .marks))) h)
 
 ---------------------------------------------------------------- characters of seven bits
 
@@ -92,10 +92,10 @@ module _ (s : List ℕ) (e : ℕ) where
 
 module _ {s : List ℕ} {a : Step} (o : Open s a) (t lo hi n : ℕ) (g : Got) (l : lo ≤ hi) (h : hi < 1048576) (q : n ≡ width (hi - lo)) (p : Pulls s (a .c) n g) where
   abbrev told : ℕ → ℕ → List Rec
-  told from len = pack t 0 (units (bitOf s) 7 from len)
+  told from len = pack t 0 (a .c .at) (units (bitOf s) 7 from len)
 
   abbrev behind : ℕ → Ans
-  behind v = then (ok (a .c .at + n) [] (over hi (lo + v))) λ r. letters (bitOf s) (a .c .end) 7 128 (lo + v) r λ u. ok u (pack t 0 (coded 0 (units (bitOf s) 7 r (lo + v)))) 0
+  behind v = then (ok (a .c .at + n) [] (over hi (lo + v))) λ r. letters (bitOf s) (a .c .end) 7 128 (lo + v) r λ u. ok u (pack t 0 (a .c .at) (coded 0 (units (bitOf s) 7 r (lo + v)))) 0
 
   text-read : read (text t 128 (first 0) lo hi) (0, 0) (bitOf s) (a .c .end) (a .c .at) ≡ pull (bitOf s) (a .c .end) (a .c .at) n behind
   unfolding read sized width widthIn

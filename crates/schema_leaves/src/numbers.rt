@@ -16,13 +16,14 @@ pub fn take_number(s: &[u8], words: &mut [u64], at: Step, tag: u64, lo: u64, hi:
     ensures { λ r. ⌜ Came (read (num tag lo hi) (0, 0) (bitOf (now (s .entry))) (at .c .end) (at .c .at)) at (now (words .entry)) r (now (words .exit)) ⌝ }
 {
     let n = at.n;
+    let from = at.c.at;
     let d = std::num::wrapping_sub_u64(hi, lo);
     let g = bits(s, at.c, bits_for(d));
     let c = g.c;
     if c.why != 0 {
         return Step { c: c, n: n };
     }
-    let m = emit(words, n, tag, std::num::wrapping_add_u64(lo, g.v), 0);
+    let m = emit(words, n, tag, std::num::wrapping_add_u64(lo, g.v), 0, from);
     if d < g.v {
         let e = mark(c, 1);
         return Step { c: e, n: m };
@@ -36,6 +37,7 @@ pub fn take_name(s: &[u8], words: &mut [u64], at: Step, tag: u64, hi: u64) -> St
     ensures { λ r. ⌜ Came (read (name tag hi) (0, 0) (bitOf (now (s .entry))) (at .c .end) (at .c .at)) at (now (words .entry)) r (now (words .exit)) ⌝ }
 {
     let n = at.n;
+    let from = at.c.at;
     let g = bits(s, at.c, bits_for(hi));
     let c = g.c;
     if c.why != 0 {
@@ -45,6 +47,6 @@ pub fn take_name(s: &[u8], words: &mut [u64], at: Step, tag: u64, hi: u64) -> St
         let e = stop(c, 5, 1);
         return Step { c: e, n: n };
     }
-    let m = emit(words, n, tag, g.v, 0);
+    let m = emit(words, n, tag, g.v, 0, from);
     Step { c: c, n: m }
 }

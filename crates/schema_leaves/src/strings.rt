@@ -23,6 +23,7 @@ pub fn take_text(s: &[u8], words: &mut [u64], at: Step, tag: u64, lo: u64, hi: u
     ensures { λ r. ⌜ Came (read (text tag 128 (first 0) lo hi) (0, 0) (bitOf (now (s .entry))) (at .c .end) (at .c .at)) at (now (words .entry)) r (now (words .exit)) ⌝ }
 {
     let n = at.n;
+    let start = at.c.at;
     let g = bits(s, at.c, bits_for(hi - lo));
     let c = g.c;
     if c.why != 0 {
@@ -45,7 +46,7 @@ pub fn take_text(s: &[u8], words: &mut [u64], at: Step, tag: u64, lo: u64, hi: u
         };
         return Step { c: d, n: n };
     }
-    let m = tell_letters(words, n, tag, s, from, len);
+    let m = tell_letters(words, n, tag, start, s, from, len);
     let d = Cursor {
         at: from + 7 * len,
         end: end,
@@ -59,16 +60,24 @@ pub fn take_text(s: &[u8], words: &mut [u64], at: Step, tag: u64, lo: u64, hi: u
     Step { c: d, n: m }
 }
 
-// The characters from `at` on, eight to a record, with their number as the second number.
-fn tell_letters(words: &mut [u64], n: usize, tag: u64, s: &[u8], at: usize, len: usize) -> usize
+// The characters from `at` on, eight to a record, with their number as the second number. The text starts at `start`, where its size is.
+fn tell_letters(
+    words: &mut [u64],
+    n: usize,
+    tag: u64,
+    start: usize,
+    s: &[u8],
+    at: usize,
+    len: usize,
+) -> usize
     requires { ⌜ (at + len * 7 ≤ length (now s) * 8) × (at + len * 7 < 2 ^ 32) ⌝ }
-    ensures { λ m. ⌜ Placed (now (words .entry)) (now (words .exit)) n m (pack tag 0 (units (bitOf (now (s .entry))) 7 at len)) ⌝ }
+    ensures { λ m. ⌜ Placed (now (words .entry)) (now (words .exit)) n m (pack tag 0 start (units (bitOf (now (s .entry))) 7 at len)) ⌝ }
 {
     let mut m = n;
     let mut i: usize = 0;
     while i < len {
         let v = eight(s, at + i * 7, at_most_eight(len - i));
-        m = emit(words, m, tag, v, len as u64);
+        m = emit(words, m, tag, v, len as u64, start);
         i += 8;
     }
     m
@@ -89,8 +98,12 @@ fn eight(s: &[u8], at: usize, k: usize) -> u64
     requires { ⌜ (1 ≤ k) × (k ≤ 8) × (at + k * 7 ≤ length (now s) * 8) × (at + k * 7 < 2 ^ 32) ⌝ }
     ensures { λ v. ⌜ v ≡ octets 8 (units (bitOf (now (s .entry))) 7 at k) ⌝ }
 {
-    let mut spare = [0u64; 4];
-    let x = Text { at: at, len: k };
+    let mut spare = [0u64; 5];
+    let x = Text {
+        from: at,
+        at: at,
+        len: k,
+    };
     tell_text(&mut spare, 0, 0, 0, s, x);
     spare[2]
 }
@@ -116,6 +129,6 @@ pub fn take_bits(s: &[u8], words: &mut [u64], at: Step, tag: u64, n: u64) -> Ste
         why: 0,
         marks: c.marks,
     };
-    let told = emit(words, m, tag, from as u64, n);
+    let told = emit(words, m, tag, from as u64, n, from);
     Step { c: d, n: told }
 }

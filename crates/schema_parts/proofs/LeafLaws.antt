@@ -64,6 +64,6 @@ refused a {c} m z e w l =
     let u : c ≡ put (a .c) (a .c .at) 5 (or (a .c .marks) m) = e ∙ rw (eq-eqb (a .c .why) 0 z) in
     came-stopped bad m (λ f. omega arith) l (rw u refl) (rw u refl) refl
 
-pub noted-unread : (a : Step) {c : Cursor} (t : ℕ) {k : ℕ} {w w′ : List ℕ} → a .c .why ≡ 0 → a .c .at ≤ a .c .end → c ≡ marked (a .c) 8 → Put w w′ (a .n) k (rec t 0 1 0) → Came (ok (a .c .at) (rec t 0 1 0 ∷ []) (mark 4)) a w (at c k) w′
+pub noted-unread : (a : Step) {c : Cursor} (t : ℕ) {k : ℕ} {w w′ : List ℕ} → a .c .why ≡ 0 → a .c .at ≤ a .c .end → c ≡ marked (a .c) 8 → Put w w′ (a .n) k (rec t 0 1 0 (a .c .at)) → Came (ok (a .c .at) (rec t 0 1 0 (a .c .at) ∷ []) (mark 4)) a w (at c k) w′
 unfolding mark
-noted-unread a t z l e h = came-told 8 (rec t 0 1 0) l (goes-marked (a .c) 8 z e) h
+noted-unread a t z l e h = came-told 8 (rec t 0 1 0 (a .c .at)) l (goes-marked (a .c) 8 z e) h

@@ -17,4 +17,4 @@ markOf kind b q = cond (eqb kind 7) (unreadMark (b q)) 0
 -- its reading; the presence bit stands at q
 unfoldable pub memberRead : (ℕ → Fmt) → ℕ → ℕ → ℕ → (ℕ → ℕ) → ℕ → ℕ → ℕ → Ans
 memberRead F kind k a b e q at =
-    cond (eqb kind 6) (fork (b q) (ok at [] 0) (read (F a) (0, 0) b e at)) (cond (eqb kind 7) (fork (b q) (ok at [] 0) (ok at (rec a 0 1 0 ∷ []) (mark 4))) (read (F k) (0, 0) b e at))
+    cond (eqb kind 6) (fork (b q) (ok at [] 0) (read (F a) (0, 0) b e at)) (cond (eqb kind 7) (fork (b q) (ok at [] 0) (ok at (rec a 0 1 0 at ∷ []) (mark 4))) (read (F k) (0, 0) b e at))

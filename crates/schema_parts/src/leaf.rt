@@ -48,9 +48,9 @@ pub fn refuse(at: Step, marks: u64) -> Step
 // A part that is known to be present and not read: a record and mark 4.
 pub fn note_unread(words: &mut [u64], at: Step, tag: u64) -> Step
     requires { ⌜ (at .c .why ≡ 0) × (at .c .at ≤ at .c .end) ⌝ }
-    ensures { λ r. ⌜ Came (ok (at .c .at) (rec tag 0 1 0 ∷ []) (mark 4)) at (now (words .entry)) r (now (words .exit)) ⌝ }
+    ensures { λ r. ⌜ Came (ok (at .c .at) (rec tag 0 1 0 (at .c .at) ∷ []) (mark 4)) at (now (words .entry)) r (now (words .exit)) ⌝ }
 {
     let c = mark(at.c, 8);
-    let n = emit(words, at.n, tag, 1, 0);
+    let n = emit(words, at.n, tag, 1, 0, at.c.at);
     Step { c: c, n: n }
 }

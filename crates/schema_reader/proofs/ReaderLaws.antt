@@ -59,7 +59,7 @@ module _ (N s : List ℕ) where
   frame-stops w (failed lack p m S n e l c q i) h = rw (by-answer e, c, q)
   frame-stops w (failed (quit a b d) p m S n e l c q i) h = absurd (n refl)
 
-  pub frame-full : {v v′ : List ℕ} {z : Step} {k : ℕ} (w : List ℕ) → Frame v z v′ → z .c .why ≡ 0 → length w / 4 < z .n → k ≡ min (z .n * 4) top → _≡_ {A = Outcome} (refused 7 (z .c .at) k 0, w) (capped (settle (readFrame (meaning N) s) w))
+  pub frame-full : {v v′ : List ℕ} {z : Step} {k : ℕ} (w : List ℕ) → Frame v z v′ → z .c .why ≡ 0 → length w / 5 < z .n → k ≡ min (z .n * 5) top → _≡_ {A = Outcome} (refused 7 (z .c .at) k 0, w) (capped (settle (readFrame (meaning N) s) w))
   unfolding reply need counted
   frame-full {z = z} {k = k} w (went p m R e l c n q) h f g =
       let a : z .c .at ≡ p = rw c in
@@ -68,7 +68,7 @@ module _ (N s : List ℕ) where
       rw (by-answer e, a, d) (sym (ap capped (settle-full false p (m) R w b) ∙ cap-need 7 p (need R) 0 w))
   frame-full w (failed y p m S n e l c q i) h f g = absurd (n (sym c ∙ h))
 
-  pub frame-fits-all : {v v′ w w′ : List ℕ} {z z′ : Step} → length w < 2 ^ 64 → Frame v z v′ → Frame w z′ w′ → z .c .why ≡ 0 → z .n ≤ length w / 4 → _≡_ {A = Outcome} (accepted false (z .c .at) (z .c .marks) (z .n), w′) (capped (settle (readFrame (meaning N) s) w))
+  pub frame-fits-all : {v v′ w w′ : List ℕ} {z z′ : Step} → length w < 2 ^ 64 → Frame v z v′ → Frame w z′ w′ → z .c .why ≡ 0 → z .n ≤ length w / 5 → _≡_ {A = Outcome} (accepted false (z .c .at) (z .c .marks) (z .n), w′) (capped (settle (readFrame (meaning N) s) w))
   unfolding reply need counted
   frame-fits-all {w = w} {w′} {z} {z′} t (went p m R e l c n q) (went p′ m′ R′ e′ l′ c′ n′ q′) h f =
       let r : R′ ≡ R = (let y : ok p′ R′ m′ ≡ ok p R m = sym e′ ∙ e in cc) in

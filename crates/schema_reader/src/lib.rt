@@ -22,7 +22,7 @@ const LONGEST: usize = 65536;
 const DEEPEST: usize = 16;
 
 // The words of a record.
-const WORDS: usize = 4;
+const WORDS: usize = 5;
 
 // Node 0 is the root; its records have element number 0.
 pub fn parse_by_table(frame: &[u8], nodes: &[u64], words: &mut [u64]) -> Answer
@@ -66,9 +66,9 @@ fn answer(frame: &[u8], nodes: &[u64], words: &mut [u64]) -> Answer
 
 // The words of so many records, at most 2^64 - 1.
 fn words_for(count: usize) -> usize
-    ensures { λ r. ⌜ r ≡ min (count * 4) top ⌝ }
+    ensures { λ r. ⌜ r ≡ min (count * 5) top ⌝ }
 {
-    if count < 0x4000_0000_0000_0000 {
+    if count < 0x3333_3333_3333_3333 {
         return count * WORDS;
     }
     usize::MAX

@@ -6,10 +6,12 @@ use Prim.Native.Nat.{ℕ, _*_, _≤_, _<_, min}
 use native.Mathlib.Omega.{arith}
 use lib.ListN.{length, drop, take}
 use Rattle.atn.specs.Reading.{Rec}
+use Rattle.atn.specs.Places.{Rising}
 use Rattle.atn.specs.Entries.{Reply, accept, readFrame, Answer, accepted, refused, Outcome, flat, need, enter, frame-fits}
 use Rattle.atn.proofs.Readings.{Keeps, format-keeps}
 use Rattle.atn.proofs.Outcomes.{passes, early, NoRoom}
-use Rattle.atn.proofs.Demands.{Message, Shares, CutOrOut, cut, ended, Enough, whole-again, bad-again, cut-to, words-kept, words-left, room-refused, refused-room, reach-inside, refused-inside, clean-sound, clean-complete}
+use Rattle.atn.proofs.Places.{frame-rising}
+use Rattle.atn.proofs.Demands.{taken, Message, Shares, CutOrOut, cut, ended, Enough, whole-again, bad-again, cut-to, words-kept, words-left, room-refused, refused-room, reach-inside, refused-inside, clean-sound, clean-complete}
 use Rattle.schema_tables.specs.Nodes.{meaning}
 use Rattle.schema_tables.specs.Entry.{top, capped, cappedAnswer, parse-by-table}
 use Rattle.schema_tables.proofs.Capped.{Kept, kept-reads, cap-accepted, cap-refused, cap-words, cap-same, cap-need}
@@ -84,3 +86,9 @@ module _ (N : List ℕ) (kept : Kept N) where
   pub table-complete : (s w : List ℕ) (p : ℕ) (R : List Rec) → frame-fits s ≡ true → Message (meaning N) s p R → need R ≤ length w → parse-by-table s N w ≡ (accepted false p 0 (length R), flat R ++ drop (need R) w)
   unfolding passes
   table-complete s w p R h m l = kept-reads N kept s w ∙ ap capped (clean-complete [] (meaning N) s w p R h refl m l) ∙ cap-same false p 0 (length R) (flat R ++ drop (need R) w)
+
+  -- "For one frame the fifth words never fall from one record to the next", and none is above the reach
+  pub table-rising : (s w : List ℕ) {c : Bool} {p m k : ℕ} {w′ : List ℕ} → parse-by-table s N w ≡ (accepted c p m k, w′) → (R : List Rec) × (k ≡ length R) × (w′ ≡ flat R ++ drop (need R) w) × Rising 0 R p
+  table-rising s w h =
+      let y = taken [] (λ f. F f) keeps s w (to-plain s w h) .2 in
+      (y .recs, y .counted, y .words, frame-rising s (meaning N) (y .replied) .0)

@@ -60,7 +60,7 @@ module _ (F : ℕ → Fmt) (t first n : ℕ) (s : List ℕ) {a : Step} (o : Open
   Choice w z w′ = Came (read (choice t (alternativesFrom F first n)) (0, 0) (bitOf s) (a .c .end) (a .c .at)) a w z w′
 
   abbrev chosen : ℕ → Ans
-  chosen i = then (ok (a .c .at + b) (rec t 0 i 0 ∷ []) 0) λ r. readChoice (alternativesFrom F first n) i (0, 0) (bitOf s) (a .c .end) r
+  chosen i = then (ok (a .c .at + b) (rec t 0 i 0 (a .c .at) ∷ []) 0) λ r. readChoice (alternativesFrom F first n) i (0, 0) (bitOf s) (a .c .end) r
 
   bits-are : width (highest (alternativesOf (alternativesFrom F first n))) ≡ b
   bits-are = alternatives-width F first n ∙ sym q
@@ -69,7 +69,7 @@ module _ (F : ℕ → Fmt) (t first n : ℕ) (s : List ℕ) {a : Step} (o : Open
   unfolding read
   index-short h = rw bits-are (came-short o b g p chosen h)
 
-  module _ (z : g .c .why ≡ 0) {w w₁ : List ℕ} (t′ : length w ≤ top) {m : ℕ} (h : Put w w₁ (a .n) m (rec t 0 (g .v) 0)) where
+  module _ (z : g .c .why ≡ 0) {w w₁ : List ℕ} (t′ : length w ≤ top) {m : ℕ} (h : Put w w₁ (a .n) m (rec t 0 (g .v) 0 (a .c .at))) where
     pub index-open : Open s (at (g .c) m)
     index-open = told-open (open-pull o b g p z) h
 
@@ -82,7 +82,7 @@ module _ (F : ℕ → Fmt) (t first n : ℕ) (s : List ℕ) {a : Step} (o : Open
         rw bits-are
         (came-pull o b g p chosen z
         (came-then {b = at (g .c) m} (λ r. readChoice (alternativesFrom F first n) (g .v) (0, 0) (bitOf s) (a .c .end) r) t′
-        (came-told {a = at (g .c) (a .n)} 0 (rec t 0 (g .v) 0) (rw e (y .room)) (rw (← f) (goes-unmarked (g .c) z)) h) z (came-same (ap (λ u. readChoice (alternativesFrom F first n) (g .v) (0, 0) (bitOf s) u (g .c .at)) (sym e)) x)))
+        (came-told {a = at (g .c) (a .n)} 0 (rec t 0 (g .v) 0 (a .c .at)) (rw e (y .room)) (rw (← f) (goes-unmarked (g .c) z)) h) z (came-same (ap (λ u. readChoice (alternativesFrom F first n) (g .v) (0, 0) (bitOf s) u (g .c .at)) (sym e)) x)))
 
     pub index-in : {v : Step} {w′ : List ℕ} → g .v < n → Came (read (F (first + g .v)) (0, 0) (bitOf s) (g .c .end) (g .c .at)) (at (g .c) m) w₁ v w′ → Choice w v w′
     index-in l x = onward (came-same (pick-in F (0, 0) (bitOf s) (g .c .end) (g .c .at) first n (g .v) l) x)
@@ -116,17 +116,18 @@ module _ (f : Fmt) (t : ℕ) (s : List ℕ) {a : Step} (o : Open s a) (g : Got) 
         let y = there o 1 g p z in
         came-pull o 1 g p forked z (rw e (came-same (rw (y .cursor)) x))
 
-    pub bit-set : {d : Cursor} {m : ℕ} {w w′ : List ℕ} → (g .v ≡ 0 → ⊥) → d ≡ marked (g .c) 2 → Put w w′ (a .n) m (rec t 0 0 1) → Extension w (at d m) w′
+    pub bit-set : {d : Cursor} {m : ℕ} {w w′ : List ℕ} → (g .v ≡ 0 → ⊥) → d ≡ marked (g .c) 2 → Put w w′ (a .n) m (rec t 0 0 1 (g .c .at)) → Extension w (at d m) w′
     unfolding read fork then glue mark
     bit-set {d} n e h =
         let y = there o 1 g p z in
         let v : g .v ≡ suc (g .v - 1) = omega (arith, n) in
+        let u : g .c .at ≡ a .c .at + 1 = rw (y .cursor) in
         came-pull o 1 g p forked z
-        (came-same (ap forked v ∙ rw (or-nil 0, or-nil 2)) (came-told {a = at (g .c) (a .n)} {c = d} {p = a .c .at + 1} 2 (rec t 0 0 1) (rw (y .cursor) (y .room)) (goes-marked (g .c) 2 z e ∙ rw (y .cursor)) h))
+        (came-same (ap forked v ∙ rw (or-nil 0, or-nil 2)) (came-told {a = at (g .c) (a .n)} {c = d} {p = a .c .at + 1} 2 (rec t 0 0 1 (a .c .at + 1)) (rw (y .cursor) (y .room)) (goes-marked (g .c) 2 z e ∙ rw (y .cursor)) (rw u at h)))
 
 ---------------------------------------------------------------- a record before a part
 
-pub headed : (f : Fmt) (t : ℕ) (s : List ℕ) {a z : Step} {w w₁ w′ : List ℕ} {m : ℕ} → Open s a → length w ≤ top → Put w w₁ (a .n) m (rec t 0 0 0) → Came (read f (0, 0) (bitOf s) (a .c .end) (a .c .at)) (at (a .c) m) w₁ z w′
+pub headed : (f : Fmt) (t : ℕ) (s : List ℕ) {a z : Step} {w w₁ w′ : List ℕ} {m : ℕ} → Open s a → length w ≤ top → Put w w₁ (a .n) m (rec t 0 0 0 (a .c .at)) → Came (read f (0, 0) (bitOf s) (a .c .end) (a .c .at)) (at (a .c) m) w₁ z w′
     → Came (read (noted t 0 0 f) (0, 0) (bitOf s) (a .c .end) (a .c .at)) a w z w′
 unfolding read
-headed f t s {a} o l h x = came-then {b = at (a .c) _} (λ r. read f (0, 0) (bitOf s) (a .c .end) r) l (came-told 0 (rec t 0 0 0) (o .inside .0) (goes-unmarked (a .c) (o .goes)) h) (o .goes) x
+headed f t s {a} o l h x = came-then {b = at (a .c) _} (λ r. read f (0, 0) (bitOf s) (a .c .end) r) l (came-told 0 (rec t 0 0 0 (a .c .at)) (o .inside .0) (goes-unmarked (a .c) (o .goes)) h) (o .goes) x

@@ -44,7 +44,7 @@ module _ (F : ℕ → Fmt) (kind k a : ℕ) (s : List ℕ) (q : ℕ) {x : Step} 
   unfolding memberRead fork
   not-there e p z = let y : bitOf s q ≡ 0 = sym p ∙ z in rw (e, y) stays
 
-  pub not-read : {v : ℕ} {z : Step} {w w′ : List ℕ} → kind ≡ 7 → v ≡ bitOf s q → (v ≡ 0 → ⊥) → Came (ok (x .c .at) (rec a 0 1 0 ∷ []) (mark 4)) x w z w′ → Member w z w′
+  pub not-read : {v : ℕ} {z : Step} {w w′ : List ℕ} → kind ≡ 7 → v ≡ bitOf s q → (v ≡ 0 → ⊥) → Came (ok (x .c .at) (rec a 0 1 0 (x .c .at) ∷ []) (mark 4)) x w z w′ → Member w z w′
   unfolding memberRead fork
   not-read {v} e p n h = let y : bitOf s q ≡ suc (v - 1) = omega (arith, n) in rw (e, y) h
 

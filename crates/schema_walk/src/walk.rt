@@ -70,7 +70,7 @@ pub fn read_node(
     }
     if kind == 11 {
         let c = at.c;
-        let n = emit(words, at.n, a, 0, 0);
+        let n = emit(words, at.n, a, 0, 0, c.at);
         return read_node(s, nodes, words, b as usize, below, Step { c: c, n: n });
     }
     if kind == 12 {
@@ -201,13 +201,14 @@ fn read_choice(
     ensures { λ r. ⌜ Came (read (choice tag (alternativesFrom (λ j. formatAt left (now (nodes .entry)) j) first count)) (0, 0) (bitOf (now (s .entry))) (at .c .end) (at .c .at)) at (now (words .entry)) r (now (words .exit)) ⌝ }
 {
     let n = at.n;
+    let from = at.c.at;
     let g = bits(s, at.c, bits_for((count - 1) as u64));
     let c = g.c;
     if c.why != 0 {
         return Step { c: c, n: n };
     }
     let index = g.v as usize;
-    let m = emit(words, n, tag, g.v, 0);
+    let m = emit(words, n, tag, g.v, 0, from);
     if index < count {
         return read_node(s, nodes, words, first + index, left, Step { c: c, n: m });
     }
@@ -238,6 +239,6 @@ fn read_extension(
         return read_node(s, nodes, words, k, left, Step { c: c, n: n });
     }
     let d = mark(c, 2);
-    let m = emit(words, n, tag, 0, 1);
+    let m = emit(words, n, tag, 0, 1, c.at);
     Step { c: d, n: m }
 }

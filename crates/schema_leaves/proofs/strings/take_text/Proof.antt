@@ -23,11 +23,11 @@ add-size c = omega (arith, c .before .before .before .before .before .before .be
 sub-left : tie.Need-sub-left
 sub-left c = text-bounds (c .before .before .before .before .before .before .before .before .pre .0) _ (c .before .before .before .before .bits .result) (c .before .before .before .before .bits .ensures) (c .before .if1 .left) .0
 
-mul-t24 : tie.Need-mul-t24
-mul-t24 c = omega (arith, text-bounds (c .before .before .before .before .before .before .before .before .before .before .pre .0) _ (c .before .before .before .before .before .before .bits .result) (c .before .before .before .before .before .before .bits .ensures) (c .before .before .before .if1 .left))
+mul-t25 : tie.Need-mul-t25
+mul-t25 c = omega (arith, text-bounds (c .before .before .before .before .before .before .before .before .before .before .pre .0) _ (c .before .before .before .before .before .before .bits .result) (c .before .before .before .before .before .before .bits .ensures) (c .before .before .before .if1 .left))
 
-add-t25 : tie.Need-add-t25
-add-t25 c = omega (arith, text-bounds (c .before .before .before .before .before .before .before .before .before .before .pre .0) _ (c .before .before .before .before .before .before .bits .result) (c .before .before .before .before .before .before .bits .ensures) (c .before .before .before .if1 .left))
+add-t26 : tie.Need-add-t26
+add-t26 c = omega (arith, text-bounds (c .before .before .before .before .before .before .before .before .before .before .pre .0) _ (c .before .before .before .before .before .before .bits .result) (c .before .before .before .before .before .before .bits .ensures) (c .before .before .before .if1 .left))
 
 returns-2 : tie.Need-returns-2
 returns-2 c = text-out (c .before .before .before .before .before .before .before .before .before .before .pre .0) (c .before .before .before .before .before .before .before .before .before .before .args .tag) (c .before .before .before .before .before .before .before .before .before .before .args .lo) (c .before .before .before .before .before .before .before .before .before .before .args .hi) _ (c .before .before .before .before .before .before .bits .result) (c .before .before .before .before .before .before .before .before .before .before .pre .1) (c .before .before .before .before .before .before .before .before .before .before .pre .2) (c .before .before .before .before .before .before .before .bits-for .ensures .0) (c .before .before .before .before .before .before .bits .ensures) (c .before .before .before .if1 .left) refl (c .before .if2 .taken) (c .ran-out .ensures) refl
@@ -35,11 +35,11 @@ returns-2 c = text-out (c .before .before .before .before .before .before .befor
 tell-letters-requires : tie.Need-tell-letters-requires
 tell-letters-requires c κs = (omega (arith, c .before .if2 .left, text-bounds (c .before .before .before .before .before .before .before .before .before .before .pre .0) _ (c .before .before .before .before .before .before .bits .result) (c .before .before .before .before .before .before .bits .ensures) (c .before .before .before .if1 .left)), omega (arith, c .before .if2 .left, text-bounds (c .before .before .before .before .before .before .before .before .before .before .pre .0) _ (c .before .before .before .before .before .before .bits .result) (c .before .before .before .before .before .before .bits .ensures) (c .before .before .before .if1 .left)))
 
-mul-t21 : tie.Need-mul-t21
-mul-t21 c = omega (arith, c .before .before .before .before .if2 .left, text-bounds (c .before .before .before .before .before .before .before .before .before .before .before .before .before .pre .0) _ (c .before .before .before .before .before .before .before .before .before .bits .result) (c .before .before .before .before .before .before .before .before .before .bits .ensures) (c .before .before .before .before .before .before .if1 .left))
+mul-t22 : tie.Need-mul-t22
+mul-t22 c = omega (arith, c .before .before .before .before .if2 .left, text-bounds (c .before .before .before .before .before .before .before .before .before .before .before .before .before .pre .0) _ (c .before .before .before .before .before .before .before .before .before .bits .result) (c .before .before .before .before .before .before .before .before .before .bits .ensures) (c .before .before .before .before .before .before .if1 .left))
 
-add-t28 : tie.Need-add-t28
-add-t28 c = omega (arith, c .before .before .before .before .if2 .left, text-bounds (c .before .before .before .before .before .before .before .before .before .before .before .before .before .pre .0) _ (c .before .before .before .before .before .before .before .before .before .bits .result) (c .before .before .before .before .before .before .before .before .before .bits .ensures) (c .before .before .before .before .before .before .if1 .left))
+add-t29 : tie.Need-add-t29
+add-t29 c = omega (arith, c .before .before .before .before .if2 .left, text-bounds (c .before .before .before .before .before .before .before .before .before .before .before .before .before .pre .0) _ (c .before .before .before .before .before .before .before .before .before .bits .result) (c .before .before .before .before .before .before .before .before .before .bits .ensures) (c .before .before .before .before .before .before .if1 .left))
 
 same-length : tie.Need-same-length
 same-length c = ap length (c .before .before .before .before .tell-letters .ensures .words) ∙ place-length _ _ _
@@ -57,5 +57,5 @@ pub take-text-spec : {M : Type 1} → statement M
 take-text-spec =
     tie.close
     (tie.spec
-    sub-bits-for (λ c κs. search needs) bits-requires returns add-size sub-left (λ c. search needs) (λ c κs. search needs) mul-t24 add-t25 returns-2 tell-letters-requires mul-t21 add-t28
+    sub-bits-for (λ c κs. search needs) bits-requires returns add-size sub-left (λ c. search needs) (λ c κs. search needs) mul-t25 add-t26 returns-2 tell-letters-requires mul-t22 add-t29
     (λ c κs. search needs) same-length returns-3 same-length-2 returns-4)
