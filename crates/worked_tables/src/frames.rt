@@ -6,7 +6,7 @@ use schema_reader::parse_by_table;
 
 fn by_shop(frame: &[u8]) {
     let nodes = SHOP;
-    let mut words = [0u64; 128];
+    let mut words = [0u64; 160];
     let answer = parse_by_table(frame, &nodes, &mut words);
     print(b"shop", frame, &words, answer);
 }
@@ -33,7 +33,7 @@ pub fn of_the_shop() {
 
 pub fn of_the_procedure() {
     let nodes = PROCEDURE;
-    let mut words = [0u64; 128];
+    let mut words = [0u64; 160];
     let frame = [0x40u8, 0x82];
     let answer = parse_by_table(&frame, &nodes, &mut words);
     print(b"procedure", &frame, &words, answer);
@@ -42,22 +42,22 @@ pub fn of_the_procedure() {
     print(b"procedure", &unnamed, &words, refused);
 }
 
-// Fifteen words are lent for four records, and sixteen.
+// Nineteen words are lent for four records, and twenty.
 pub fn without_room() {
-    in_fifteen(&[0x37, 0x29, 0x42]);
-    in_sixteen(&[0x37, 0x29, 0x42]);
+    in_nineteen(&[0x37, 0x29, 0x42]);
+    in_twenty(&[0x37, 0x29, 0x42]);
 }
 
-fn in_fifteen(frame: &[u8]) {
+fn in_nineteen(frame: &[u8]) {
     let nodes = SHOP;
-    let mut words = [0u64; 128];
-    let answer = parse_by_table(frame, &nodes, &mut words[..15]);
-    print(b"shop, fifteen words,", frame, &words, answer);
+    let mut words = [0u64; 160];
+    let answer = parse_by_table(frame, &nodes, &mut words[..19]);
+    print(b"shop, nineteen words,", frame, &words, answer);
 }
 
-fn in_sixteen(frame: &[u8]) {
+fn in_twenty(frame: &[u8]) {
     let nodes = SHOP;
-    let mut words = [0u64; 128];
-    let answer = parse_by_table(frame, &nodes, &mut words[..16]);
-    print(b"shop, sixteen words,", frame, &words, answer);
+    let mut words = [0u64; 160];
+    let answer = parse_by_table(frame, &nodes, &mut words[..20]);
+    print(b"shop, twenty words,", frame, &words, answer);
 }

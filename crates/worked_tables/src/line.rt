@@ -5,7 +5,7 @@ use listing::put_answer;
 use listing::put_hex;
 use listing::put_text;
 
-pub fn print(table: &[u8], frame: &[u8], words: &[u64; 128], answer: Answer) {
+pub fn print(table: &[u8], frame: &[u8], words: &[u64; 160], answer: Answer) {
     let mut line = listing::new();
     let mut n = put_text(&mut line, 0, table);
     n = put(&mut line, n, b' ');

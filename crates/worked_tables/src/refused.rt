@@ -5,7 +5,7 @@ use super::tables::SIXTEEN;
 use schema_reader::parse_by_table;
 
 fn try_table(name: &[u8], nodes: &[u64]) {
-    let mut words = [0u64; 128];
+    let mut words = [0u64; 160];
     let answer = parse_by_table(&[], nodes, &mut words);
     print(name, &[], &words, answer);
 }
@@ -52,7 +52,7 @@ pub fn depths() {
 // 1 before 17 before 15 before 16.
 pub fn in_order() {
     let frame = [0u8; 65537];
-    let mut words = [0u64; 128];
+    let mut words = [0u64; 160];
     let answer = parse_by_table(&frame, &[13, 0, 0, 0], &mut words);
     print(
         b"kind 13, 65537 bytes that begin with",
