@@ -5,10 +5,13 @@ use mathlib.Core.List.{List, _++_}
 use Prim.Native.Nat.{ℕ, _*_, _<_}
 use native.Mathlib.Omega.{arith}
 use lib.ListN.{length, take}
+use Rattle.atn.specs.Reading.{Rec}
+use Rattle.atn.specs.Places.{Rising}
 use Rattle.atn.specs.Entries.{Reply, accept, ranOut, badly, unsupplied, Outcome, accepted, refused, Test}
 use Rattle.atn.specs.Entries as entries
 use Rattle.atn.proofs.Demands.{Shares, CutOrOut, cut, ended, Enough}
 use Rattle.atn.proofs.Each.{Owes}
+use Rattle.atn.proofs.Outcomes.{Settled}
 use Rattle.answers.specs.declared.Answer.{Answer}
 use Rattle.answers.specs.declared.Answer.the-variants.{Accepted, Refused}
 use Rattle.answers.specs.Says.{answerOf, Says}
@@ -42,8 +45,13 @@ ends : {r : Answer} {w : List ℕ} {o : Outcome} → Says r w o → CutOrOut o �
 ends {r} x (cut p m k w) = let e : r ≡ Accepted true p m k = says-is x refl .0 in rw e refl
 ends {r} x (ended p l w) = let e : r ≡ Refused 4 p 0 l = says-is x refl .0 in rw e refl
 
-pub promises : {ts : List Test} (F : List ℕ → Reply) (P : List ℕ → List ℕ → Outcome) → Owes ts F P → Promises F P
-promises F P o =
+-- what is accepted is told as it was read, and its places rise up to the reach
+pub record Climbs (F : List ℕ → Reply) (P : List ℕ → List ℕ → Outcome) : Type 0 where
+  pub told : (s w : List ℕ) {c : Bool} {p m k : ℕ} {w′ : List ℕ} → P s w ≡ (accepted c p m k, w′) → Settled (F s) w c p m k w′
+  pub rises : (s : List ℕ) {c : Bool} {p m : ℕ} {R : List Rec} → F s ≡ accept c p m R → Rising 0 R p
+
+pub promises : {ts : List Test} (F : List ℕ → Reply) (P : List ℕ → List ℕ → Outcome) → Owes ts F P → Climbs F P → Promises F P
+promises F P o u =
     record {
       one = λ s w {r} {q} x y. says-is {r = r} {q = q} x (sym (y .is));
       left = λ s w x. o .left s w (sym (x .is));
@@ -61,4 +69,7 @@ promises F P o =
       lackedNone = λ s w x n. o .lackedNone s w (sym (x .is)) n;
       lackedSome = λ s w x. o .lackedSome s w (sym (x .is));
       longer = λ s t w v x a y. o .longer s t w v (sym (x .is)) (record { bits = a .bits; more = a .more }) (sym (y .is));
+      rising = λ s w x.
+          let y = u .told s w (sym (x .is)) in
+          (y .recs, y .counted, y .words, u .rises s (y .replied));
     }

@@ -27,31 +27,31 @@ use Rattle.answers.specs.Says.{answerOf}
 use Rattle.demands.specs.Worked.{from, found, of-got, Only}
 
 -- a reading that told one number is written as the number and the cursor behind it are
-module _ (k : ℕ → ℕ → Ans) (s : List ℕ) (p : ℕ) (d : Cursor) (v : ℕ) where
-  led-one : Led k (from s p) d (rec 0 0 v 0 ∷ []) → found (d .why) (d .marks) v ≡ one (k (length s * 8) p)
+module _ (k : ℕ → ℕ → Ans) (s : List ℕ) (p : ℕ) (d : Cursor) (v f : ℕ) where
+  led-one : Led k (from s p) d (rec 0 0 v 0 f ∷ []) → found (d .why) (d .marks) v ≡ one (k (length s * 8) p)
   led-one (stayed h q) = absurd (h refl)
-  led-one (went o m z a l q) = rw (q, a, one-told o v m, or-commutes 0 m, or-nil m)
+  led-one (went o m z a l q) = rw (q, a, one-told o v f m, or-commutes 0 m, or-nil m)
   led-one (failed (out lacked) o m S n z a l q) = rw (q, a, ne-eqb (number (out lacked)) 0 n, ne-eqb (number (out lacked)) 5 (λ y. omega arith), one-out lacked o m S)
   led-one (failed format.bad o m S n z a l q) = rw (q, a, one-bad o m S)
   led-one (failed lack o m S n z a l q) = rw (q, a, one-lack o m S)
   led-one (failed (quit x y m′) o m S n z a l q) = absurd (n refl)
 
-  reads-one : p ≤ length s * 8 → Reads k s (from s p) d (rec 0 0 v 0 ∷ []) → found (d .why) (d .marks) v ≡ one (k (length s * 8) p)
+  reads-one : p ≤ length s * 8 → Reads k s (from s p) d (rec 0 0 v 0 f ∷ []) → found (d .why) (d .marks) v ≡ one (k (length s * 8) p)
   reads-one l r = led-one (r .led (l, omega arith))
 
 -- what is told behind a number leaves the cursor
-told-alone : (s : List ℕ) (c : Cursor) (v : ℕ) → Reads (λ e p. alone v e p) s c c (rec 0 0 v 0 ∷ [])
+told-alone : (s : List ℕ) (c : Cursor) (v : ℕ) → Reads (λ e p. alone v e p) s c c (rec 0 0 v 0 0 ∷ [])
 told-alone s c v = reads-ok _ 0 (marked-nil c)
 
 -- the contracts allow what the definitions give, and nothing else
 only-given : (q : Question) → Only q (given q)
 unfolding given mark
 only-given (range lo hi) = λ r n e f x. ap bits (x ∙ rw (e, f))
-only-given (field lo hi r) = λ k g e f x. reads-one _ (raw-bytes r) (raw-place (width (extent lo hi))) (g .c) (g .v) (omega arith) (rw (e, f) at (x .number 0 .took (0, 0)))
+only-given (field lo hi r) = λ k g e f x. reads-one _ (raw-bytes r) (raw-place (width (extent lo hi))) (g .c) (g .v) (raw-place (width (extent lo hi))) (omega arith) (rw (e, f) at (x .number 0 .took (0, 0)))
 only-given (count-of lo hi r) = λ k g e f x.
-    reads-one _ (raw-bytes r) (raw-place (width (hi - lo))) (g .c) (g .v) (omega arith) (rw (e, f) at (x .size (λ n u p. alone n u p) (told-alone (raw-bytes r) (g .c) (g .v))))
-only-given (length-of s) = λ l x. reads-one _ s 0 (l .c) (l .count) (omega arith) (x .then (λ n u p. alone n u p) (told-alone s (l .c) (l .count)))
-only-given (small-octets cs) = λ g x. reads-one _ (small-bytes cs) 7 (g .c) (g .v) (omega arith) (takes-small 2 0 refl x .took (0, 0))
+    reads-one _ (raw-bytes r) (raw-place (width (hi - lo))) (g .c) (g .v) 0 (omega arith) (rw (e, f) at (x .size (λ n u p. alone n u p) (told-alone (raw-bytes r) (g .c) (g .v))))
+only-given (length-of s) = λ l x. reads-one _ s 0 (l .c) (l .count) 0 (omega arith) (x .then (λ n u p. alone n u p) (told-alone s (l .c) (l .count)))
+only-given (small-octets cs) = λ g x. reads-one _ (small-bytes cs) 7 (g .c) (g .v) _ (omega arith) (takes-small 2 0 refl x .took (0, 0))
 only-given (frame e s) = λ r w x. ap (λ (o : Outcome). of-answer (o .0)) (x .is)
 only-given (told e t s) = λ r w x. ap (λ (o : Outcome). told-in t (o .0) (o .1)) (x .is)
 only-given (records-of e s) = λ r w x. ap (λ (o : Outcome). counted (o .0)) (x .is)

@@ -7,6 +7,7 @@ use lib.ListN.{length, drop, take}
 use Rattle.x691.specs.Bits.{bitOf}
 use Rattle.atn.specs.Format.{Fmt}
 use Rattle.atn.specs.Reading.{Rec}
+use Rattle.atn.specs.Places.{Rising}
 use Rattle.atn.specs.Entries.{Reply, accept, ranOut, badly, unsupplied, Outcome, flat, need, frame-fits}
 use Rattle.answers.specs.declared.Answer.{Answer}
 use Rattle.answers.specs.declared.Answer.the-variants.{Accepted, Refused}
@@ -58,3 +59,5 @@ pub record Promises (F : List ℕ → Reply) (P : List ℕ → List ℕ → Outc
   pub lackedSome : (s w : List ℕ) {p k l : ℕ} {w₁ : List ℕ} → Says (Refused 4 p k l) w₁ (P s w) → 1 ≤ l
   -- "a frame longer by at least that many bits no longer stops at that same read": where it runs out again, it has taken the bits that were lacked
   pub longer : (s t w v : List ℕ) {p k l q j i : ℕ} {w₁ v₁ : List ℕ} → Says (Refused 4 p k l) w₁ (P s w) → Beyond s t l → Says (Refused 4 q j i) v₁ (P t v) → (length s * 8 + l ≤ q) × (p < q)
+  -- request g) of 02: "For one frame the fifth words never fall from one record to the next", and none is above the reach
+  pub rising : (s w : List ℕ) {c : Bool} {p m k : ℕ} {w₁ : List ℕ} → Says (Accepted c p m k) w₁ (P s w) → (R : List Rec) × (k ≡ length R) × (w₁ ≡ flat R ++ drop (need R) w) × Rising 0 R p
