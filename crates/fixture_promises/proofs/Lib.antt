@@ -6,3 +6,4 @@ pub mod Entered
 pub mod Words
 pub mod Rewritten
 pub mod EveryClean
+pub mod Unplaced

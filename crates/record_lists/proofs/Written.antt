@@ -15,7 +15,7 @@ use Rattle.atn.specs.Reading.{Rec, rec, read, ok}
 use Rattle.atn.specs.Told.{tell}
 use Rattle.atn.specs.Entries.{accept, readFrame}
 use Rattle.atn.proofs.Demands.{Message, message-clean}
-use Rattle.record_lists.specs.Items.{Item, look, inside}
+use Rattle.record_lists.specs.Items.{Item, look, inside, unplaced}
 use Rattle.record_lists.specs.Shown.{shown}
 use Rattle.record_lists.specs.Clear.{clear}
 use Rattle.record_lists.specs.Parse.{Got, no, got, parse}
@@ -93,3 +93,18 @@ rewritten sp f s p R c m j =
 pub write-same : (sp : ℕ → Bool) (f : Fmt) (b c : ℕ → ℕ) (d e : ℕ) (R S : List Rec) → look sp b R ≡ look sp c S → inside sp d R ≡ true → inside sp e S ≡ true → write sp f b d R ≡ write sp f c e S
 unfolding write
 write-same sp f b c d e R S h x y = rw (x, y, h)
+
+-- nor does it matter where the fields started: "the writer of a) ignores the fifth word"
+look-unplaced : (sp : ℕ → Bool) (b : ℕ → ℕ) (R : List Rec) → look sp b (unplaced R) ≡ look sp b R
+unfolding look unplaced
+look-unplaced sp b [] = refl
+look-unplaced sp b (rec t m v s q ∷ R) = rw (look-unplaced sp b R)
+
+inside-unplaced : (sp : ℕ → Bool) (e : ℕ) (R : List Rec) → inside sp e (unplaced R) ≡ inside sp e R
+unfolding inside unplaced
+inside-unplaced sp e [] = refl
+inside-unplaced sp e (rec t m v s q ∷ R) = rw (inside-unplaced sp e R)
+
+pub write-unplaced : (sp : ℕ → Bool) (f : Fmt) (b : ℕ → ℕ) (e : ℕ) (R : List Rec) → write sp f b e (unplaced R) ≡ write sp f b e R
+unfolding write
+write-unplaced sp f b e R = rw (look-unplaced sp b R, inside-unplaced sp e R)

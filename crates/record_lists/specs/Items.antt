@@ -26,3 +26,8 @@ look sp b (rec t m v s q ∷ R) = cond (sp t) (bits t m (stretch b v s)) (plain 
 unfoldable pub inside : (ℕ → Bool) → ℕ → List Rec → Bool
 inside sp e [] = true
 inside sp e (rec t m v s q ∷ R) = (not (sp t) || leb (v + s) e) && inside sp e R
+
+-- the records with no word of where their fields start
+unfoldable pub unplaced : List Rec → List Rec
+unplaced [] = []
+unplaced (rec t m v s q ∷ R) = rec t m v s 0 ∷ unplaced R
