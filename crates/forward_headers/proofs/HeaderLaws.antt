@@ -23,21 +23,21 @@ use Rattle.forward_headers.specs.Headers.{Headers}
 
 -- the 24 bits of the address
 module _ {s : List ℕ} {c d : Cursor} (passes : Passes c 24 d) where
-  address : Takes (span 20 1 24 24) s c d (λ n. rec 20 n (c .at) 24 ∷ [])
+  address : Takes (span 20 1 24 24) s c d (λ n. rec 20 n (c .at) 24 (c .at) ∷ [])
   unfolding read width widthIn sizeBits bitsOf Spells spanned
   address =
       record {
         took = λ x.
             record {
               led = λ i.
-                  (reads-same (λ e q. pull (bitOf s) e q 24 λ _. ok (q + 24) (rec 20 (x .0) (c .at) 24 ∷ []) 0) (λ e q. read (span 20 1 24 24) x (bitOf s) e q) (same x i) (passes-ok passes)) .led i;
+                  (reads-same (λ e q. pull (bitOf s) e q 24 λ _. ok (q + 24) (rec 20 (x .0) (c .at) 24 (c .at) ∷ []) 0) (λ e q. read (span 20 1 24 24) x (bitOf s) e q) (same x i) (passes-ok passes)) .led i;
             };
       }
     where
       bits : Ctx → ℕ → ℕ → Ans
-      bits x n q = pull (bitOf s) (c .end) q (n * 1) λ _. ok (q + n * 1) (spanned 20 (x .0) q (n * 1)) 0
+      bits x n q = pull (bitOf s) (c .end) q (n * 1) λ _. ok (q + n * 1) (spanned 20 (x .0) (c .at) q (n * 1)) 0
 
-      same : (x : Ctx) → Inside s c → pull (bitOf s) (c .end) (c .at) 24 (λ _. ok (c .at + 24) (rec 20 (x .0) (c .at) 24 ∷ []) 0) ≡ read (span 20 1 24 24) x (bitOf s) (c .end) (c .at)
+      same : (x : Ctx) → Inside s c → pull (bitOf s) (c .end) (c .at) 24 (λ _. ok (c .at + 24) (rec 20 (x .0) (c .at) 24 (c .at) ∷ []) 0) ≡ read (span 20 1 24 24) x (bitOf s) (c .end) (c .at)
       same x i = sym (sized-go (bitOf s) (c .end) (c .at) 24 24 24 (bits x) (omega arith) (omega arith) tt (omega (arith, i .0)) ∙ ap (λ (q : ℕ). bits x 24 q) (omega arith))
 
 pub header-read : {s : List ℕ} {c d : Cursor} {t : DateTimeAt} {x : TextAt} → DateTimes s c t → Texts 50 s (t .c) x → Passes (x .c) 24 d

@@ -16,7 +16,7 @@ abbrev pub header : Fmt
 header = seq (dateTimeGroup ⨾ ia5 tag.aircraft-id 2 8 ⨾ span tag.aircraft-address 1 24 24 ⨾ end)
 
 abbrev pub headerRecs : List ℕ → Header → ℕ → List Rec
-headerRecs s x n = dateTimeRecs (x .time) n ++ (textRecs tag.aircraft-id n s (x .name) ++ (rec tag.aircraft-address n (x .address) 24 ∷ []))
+headerRecs s x n = dateTimeRecs (x .time) n ++ (textRecs tag.aircraft-id n s (x .name) ++ (rec tag.aircraft-address n (x .address) 24 (x .address) ∷ []))
 
 pub record Headers (s : List ℕ) (c : Cursor) (r : HeaderAt) : Type 0 where
   pub takes : Takes header s c (r .c) (λ n. headerRecs s (r .header) n)

@@ -55,5 +55,5 @@ pub fn tell_header(words: &mut [u64], n: usize, s: &[u8], x: Header) -> usize
     let name = x.name;
     let a = tell_date_time(words, n, time);
     let b = tell_text(words, a, 19, 0, s, name);
-    emit(words, b, 20, 0, x.address as u64, 24)
+    emit(words, b, 20, 0, x.address as u64, 24, x.address)
 }

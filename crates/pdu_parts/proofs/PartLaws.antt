@@ -31,13 +31,13 @@ module _ (row t : ℕ) {s : List ℕ} {c : Cursor} {g : NameAt} {n : ℕ} {w : L
   reason-untold z = runs-within 1 (reasonAt row t s) (omega arith) (runs-untold (reasonAt row t s) (h .reads t .took (0, 0)) z)
 
 -- the index of an alternative behind the extension bit
-module _ {s : List ℕ} {c d : Cursor} {g : Got} {n m : ℕ} {w w₁ : List ℕ} (goes : c .why ≡ 0) (t : Told 1 w w₁ n m (rec 2 0 0 1 ∷ [])) (q : d ≡ marked c 2) (h : Smalls s d g) where
+module _ {s : List ℕ} {c d : Cursor} {g : Got} {n m : ℕ} {w w₁ : List ℕ} (goes : c .why ≡ 0) (t : Told 1 w w₁ n m (rec 2 0 0 1 (c .at) ∷ [])) (q : d ≡ marked c 2) (h : Smalls s d g) where
   pub extension-untold : (g .c .why ≡ 0 → ⊥) → Runs 2 (extensionAt s) s c n w w₁ (record { n = m; c = g .c })
   unfolding extensionAt mark
   extension-untold z =
       runs-within 2 (extensionAt s) (omega arith)
       (runs-noted (0, 0) tag.pdu 0 1 (small 2 tag.extension-index) goes t (runs-untold (λ u p. read (small 2 tag.extension-index) (0, 0) (bitOf s) u p) (takes-small 2 tag.extension-index q h .took (0, 0)) z))
 
-  pub extension-told : {k : ℕ} {w₂ : List ℕ} → g .c .why ≡ 0 → Told 1 w₁ w₂ m k (rec 3 0 (g .v) 0 ∷ []) → Runs 2 (extensionAt s) s c n w w₂ (record { n = k; c = g .c })
+  pub extension-told : {k : ℕ} {w₂ : List ℕ} → g .c .why ≡ 0 → Told 1 w₁ w₂ m k (rec 3 0 (g .v) 0 (d .at) ∷ []) → Runs 2 (extensionAt s) s c n w w₂ (record { n = k; c = g .c })
   unfolding extensionAt mark
   extension-told z u = runs-noted (0, 0) tag.pdu 0 1 (small 2 tag.extension-index) goes t (runs-told (λ u p. read (small 2 tag.extension-index) (0, 0) (bitOf s) u p) (takes-small 2 tag.extension-index q h .took (0, 0)) z u)

@@ -36,13 +36,13 @@ pub fn read_extension(s: &[u8], words: &mut [u64], n: usize, c: Cursor) -> At
     if c.why != 0 {
         return At { n: n, c: c };
     }
-    let m = emit(words, n, 2, 0, 0, 1);
+    let m = emit(words, n, 2, 0, 0, 1, c.at);
     let d = mark(c, 2);
     let g = small(s, d);
     let e = g.c;
     if e.why != 0 {
         return At { n: m, c: e };
     }
-    let k = emit(words, m, 3, 0, g.v, 0);
+    let k = emit(words, m, 3, 0, g.v, 0, d.at);
     At { n: k, c: e }
 }
