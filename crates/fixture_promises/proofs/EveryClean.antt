@@ -10,6 +10,7 @@ use lib.Dec.{eqb, ltb}
 use borrow.Author.Tests.{leb-true, lt-ltb, eq-eqb}
 use Rattle.x691.specs.Bits.{bitOf, Spells}
 use Rattle.atn.specs.Format.{Fmt}
+use Rattle.atn.specs.Messages.{aircraftPdus, groundPdus}
 use Rattle.atn.specs.Reading.{Rec}
 use Rattle.atn.specs.Entries.{accept, readFrame, flat, pdus, cmOf, frame-fits, table-fits, direction-fits}
 use Rattle.atn.proofs.Demands.{clean-message}
@@ -18,6 +19,8 @@ use Rattle.record_bounds.proofs.Fewer.{clean-few}
 use Rattle.record_bounds.proofs.Messages.{pdus-most, cm-aircraft-most, cm-ground-most, acse-most}
 use Rattle.record_lists.specs.Kinds.{kindOf}
 use Rattle.record_lists.specs.Plain.{Plain}
+use Rattle.record_lists.specs.Exceptions.{aircraftSpares, groundSpares}
+use Rattle.record_lists.proofs.Exceptions.{aircraft-pdus-plain, ground-pdus-plain}
 use Rattle.record_lists.specs.Message.{bytesNeeded, bytesOf, written, list-fits, write-message}
 use Rattle.fixture_promises.proofs.Words.{flat-length}
 use Rattle.fixture_promises.proofs.Rewritten.{read-again}
@@ -51,3 +54,16 @@ pub clean-again : (k d : ℕ) (down up s out : List ℕ) (f : Fmt) (p : ℕ) (R 
     → (B : List ℕ) × (write-message k d down up (flat R) s out ≡ (written p, bytesOf B ++ drop (bytesNeeded B) out)) × Spells (bitOf s) 0 B × (p ≡ length B)
 clean-again k d down up s out f p R i t g l h j n =
     read-again k d down up s out f p R i t g h j (few-fit R s (omega (arith, clean-few f s h, kind-most k d down up i)) l) n
+
+-- the same of CPDLC's messages, with 02's two exceptions in the place of `Plain`
+module _ (down up s out : List ℕ) (p : ℕ) (R : List Rec) (t : table-fits down && table-fits up ≡ true) (l : frame-fits s ≡ true) (n : (p + 7) / 8 ≤ length out) where
+  abbrev Again : ℕ → Type 0
+  Again d = (B : List ℕ) × (write-message 0 d down up (flat R) s out ≡ (written p, bytesOf B ++ drop (bytesNeeded B) out)) × Spells (bitOf s) 0 B × (p ≡ length B)
+
+  pub aircraft-again : (h : readFrame (aircraftPdus down) s ≡ accept false p 0 R) → aircraftSpares down (clean-message (aircraftPdus down) s p R h .val) → Again 0
+  unfolding kindOf pdus direction-fits
+  aircraft-again h e = clean-again 0 0 down up s out (aircraftPdus down) p R refl t refl l h (aircraft-pdus-plain down (clean-message (aircraftPdus down) s p R h .val) e) n
+
+  pub ground-again : (h : readFrame (groundPdus down up) s ≡ accept false p 0 R) → groundSpares down up (clean-message (groundPdus down up) s p R h .val) → Again 1
+  unfolding kindOf pdus direction-fits
+  ground-again h e = clean-again 0 1 down up s out (groundPdus down up) p R refl t refl l h (ground-pdus-plain down up (clean-message (groundPdus down up) s p R h .val) e) n

@@ -6,3 +6,4 @@ pub mod Written
 pub mod Messages
 pub mod Longest
 pub mod Firm
+pub mod Exceptions

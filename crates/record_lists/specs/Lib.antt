@@ -3,6 +3,7 @@ pub mod Shown
 pub mod Clear
 pub mod Parse
 pub mod Plain
+pub mod Exceptions
 pub mod Write
 pub mod Kinds
 pub mod Message

@@ -1,0 +1,106 @@
+-- A value of a CPDLC message is plain unless it is one of the two exceptions of request a).
+use mathlib.Core.Path.{_≡_, refl}
+use mathlib.Core.Bool.{Bool, true, false, _&&_}
+use mathlib.Core.Option.{Option, none, some}
+use mathlib.Core.Logic.{inl, inr}
+use mathlib.Core.List.{List, [], _∷_, _++_}
+use Prim.Native.Nat.{ℕ, zero, suc}
+use lib.ListN.{getD}
+use Rattle.x691.specs.Types.{Value}
+use Rattle.x691.specs.Range.{IfAny, member}
+use Rattle.atn.specs.Format.{Fmt, Alts, typeOf, many, element, choice, seq, span, _⨾_, end}
+use Rattle.atn.specs.Messages.{dateTimeGroup, ia5, arguments, noReader, argumentOf, elements, constrainedData, messageData, atcMessage, protectedMessage, forward, aircraftPdus, groundPdus}
+use Rattle.atn.specs.Tags as tag
+use Rattle.atn.specs.Reading.{word}
+use Rattle.atn.proofs.Inverse.{both}
+use Rattle.record_lists.specs.Shown.{shown, shownFields, showAny, showAll}
+use Rattle.record_lists.specs.Clear.{solid, firsts, single, unlike}
+use Rattle.record_lists.specs.Parse.{same, begins}
+use Rattle.record_lists.specs.Plain.{Says, Unless, Plain, PlainFields}
+use Rattle.record_lists.specs.Exceptions.{NoDefault, Held, dataSpares, messageSpares, protectedSpares, forwardSpares, aircraftSpares, groundSpares}
+use Rattle.record_lists.proofs.Firm.{firm, firmAlts, plain-all}
+
+---------------------------------------------------------------- the elements of any lent table
+
+unfoldable every : List Fmt → Bool
+every [] = true
+every (f ∷ fs) = firm f && every fs
+
+every-get : (fs : List Fmt) (d : Fmt) (k : ℕ) → every fs ≡ true → firm d ≡ true → firm (getD fs k d) ≡ true
+unfolding every
+every-get [] d k h g = g
+every-get (f ∷ fs) d zero h g = both (firm f) (every fs) h .0
+every-get (f ∷ fs) d (suc k) h g = every-get fs d k (both (firm f) (every fs) h .1) g
+
+argument-firm : (k : ℕ) → firm (argumentOf k) ≡ true
+unfolding argumentOf firm solid every
+argument-firm zero = refl
+argument-firm (suc k) = every-get arguments noReader k refl refl
+
+elements-firm : (table : List ℕ) → firmAlts (elements table) ≡ true
+unfolding elements firm
+elements-firm [] = refl
+elements-firm (k ∷ table) = rw (argument-firm k, elements-firm table) refl
+
+---------------------------------------------------------------- messages
+
+module _ (table : List ℕ) where
+  elements-plain : (vs : Value (typeOf (many 1 5 (element (choice tag.element-index (elements table)))))) → Plain (many 1 5 (element (choice tag.element-index (elements table)))) vs (0, 0)
+  unfolding firm
+  elements-plain vs = plain-all (many 1 5 (element (choice tag.element-index (elements table)))) vs (0, 0) (elements-firm table)
+
+  constrained-plain : (c : Value (typeOf constrainedData)) → Plain constrainedData c (0, 0)
+  unfolding firm solid
+  constrained-plain c = plain-all constrainedData c (0, 0) refl
+
+  data-plain : (v : Value (typeOf (messageData table))) → dataSpares table v → Plain (messageData table) v (0, 0)
+  unfolding solid shown showAny showAll
+  data-plain (vs, (none, u)) h = (elements-plain vs, (tt, tt))
+  data-plain (vs, (some (none, w), u)) h = absurd h
+  data-plain (vs, (some (some [], w), u)) h = absurd h
+  data-plain (vs, (some (some (c ∷ cs), w), u)) h = (elements-plain vs, ((tt, constrained-plain (some (c ∷ cs), w)), tt))
+
+  reference-plain : (r : Option ℕ) → IfAny (λ v. Unit {0} × Unit {0}) r
+  reference-plain none = tt
+  reference-plain (some v) = (tt, tt)
+
+  -- 0 is not the default
+  message-plain : (v : Value (typeOf (atcMessage table))) → messageSpares table v → Plain (atcMessage table) v (0, 0)
+  unfolding firm solid unlike single firsts member begins shown word same
+  message-plain (n, (r, (d, (none, (x, u))))) (h, g) = (tt, (reference-plain r, (plain-all dateTimeGroup d (0, 0) refl, (tt, (data-plain x g, tt)))))
+  message-plain (n, (r, (d, (some v, (x, u))))) (h, g) = (tt, (reference-plain r, (plain-all dateTimeGroup d (0, 0) refl, ((rw h refl, tt), (data-plain x g, tt)))))
+
+  protected-plain : (v : Value (typeOf (protectedMessage table))) → protectedSpares table v → Plain (protectedMessage table) v (0, 0)
+  unfolding unlike single firsts member solid
+  protected-plain (none, (none, (i, u))) h = (tt, (tt, (tt, tt)))
+  protected-plain (none, (some m, (i, u))) h = (tt, ((tt, message-plain m h), (tt, tt)))
+  protected-plain (some a, v) h = absurd a
+
+---------------------------------------------------------------- the messages of both directions
+
+pub aircraft-pdus-plain : (down : List ℕ) (v : Value (typeOf (aircraftPdus down))) → aircraftSpares down v → Plain (aircraftPdus down) v (0, 0)
+unfolding firm solid
+aircraft-pdus-plain down (inl v) h = tt
+aircraft-pdus-plain down (inr (inl v)) h = tt
+aircraft-pdus-plain down (inr (inr (inl (none, (v, u))))) h = (tt, (protected-plain down v h, tt))
+aircraft-pdus-plain down (inr (inr (inl (some m, (v, u))))) h = ((tt, tt), (protected-plain down v h, tt))
+aircraft-pdus-plain down (inr (inr (inr (inl v)))) h = protected-plain down v h
+aircraft-pdus-plain down (inr (inr (inr (inr v)))) h = absurd h
+
+abbrev forwardHeader : Fmt
+forwardHeader = seq (dateTimeGroup ⨾ ia5 tag.aircraft-id 2 8 ⨾ span tag.aircraft-address 1 24 24 ⨾ end)
+
+forward-plain : (down up : List ℕ) (v : Value (typeOf (forward down up))) → forwardSpares down up v → Plain (forward down up) v (0, 0)
+unfolding firm
+forward-plain down up (b, (inl v, u)) h = (plain-all forwardHeader b (0, 0) refl, (data-plain up v h, tt))
+forward-plain down up (b, (inr (inl v), u)) h = (plain-all forwardHeader b (0, 0) refl, (data-plain down v h, tt))
+forward-plain down up (b, (inr (inr v), u)) h = absurd h
+
+pub ground-pdus-plain : (down up : List ℕ) (v : Value (typeOf (groundPdus down up))) → groundSpares down up v → Plain (groundPdus down up) v (0, 0)
+ground-pdus-plain down up (inl v) h = tt
+ground-pdus-plain down up (inr (inl v)) h = tt
+ground-pdus-plain down up (inr (inr (inl v))) h = protected-plain up v h
+ground-pdus-plain down up (inr (inr (inr (inl v)))) h = protected-plain up v h
+ground-pdus-plain down up (inr (inr (inr (inr (inl v))))) h = forward-plain down up v h
+ground-pdus-plain down up (inr (inr (inr (inr (inr (inl v)))))) h = tt
+ground-pdus-plain down up (inr (inr (inr (inr (inr (inr v)))))) h = absurd h
