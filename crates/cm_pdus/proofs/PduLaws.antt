@@ -70,9 +70,9 @@ module _ (s : List ℕ) (x : Ctx) (u q : ℕ) where
 
 ---------------------------------------------------------------- the index, and the extension bit
 
-pub does-choice : {t : ℕ} {fs : Alts} {s : List ℕ} {a z : Step} {w w₁ w₂ : List ℕ} {m b : ℕ} (g : Got) → Pulls s (a .c) (width (highest (alternativesOf fs))) g → Told 1 w w₁ (a .n) m (rec t 0 (g .v) 0 ∷ [])
+pub does-choice : {t : ℕ} {fs : Alts} {s : List ℕ} {a z : Step} {w w₁ w₂ : List ℕ} {m b : ℕ} (g : Got) → Pulls s (a .c) (width (highest (alternativesOf fs))) g → Told 1 w w₁ (a .n) m (rec t 0 (g .v) 0 (a .c .at) ∷ [])
     → Does b (Alternative fs (g .v) s) (record { c = g .c; n = m }) z w₁ w₂ → Does (1 + b) (Takes (choice t fs) s) a z w w₂
-does-choice {t} {fs} g p e x = record { recs = λ n. rec t n (g .v) 0 ∷ x .recs n; reads = takes-choice t fs g p (x .reads .took); told = told-then e (x .told) }
+does-choice {t} {fs} {a = a} g p e x = record { recs = λ n. rec t n (g .v) 0 (a .c .at) ∷ x .recs n; reads = takes-choice t fs g p (x .reads .took); told = told-then e (x .told) }
 
 abbrev root : Bool → Fmt
 root true = choice tag.cm-ground-pdu groundPdus

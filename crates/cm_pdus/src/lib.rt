@@ -64,7 +64,7 @@ fn ground_pdu(words: &mut [u64], at: Step, s: &[u8]) -> Step
 {
     let index = bits(s, at.c, 3);
     let c = index.c;
-    let n = emit(words, at.n, tags::CM_GROUND_PDU, 0, index.v, 0);
+    let n = emit(words, at.n, tags::CM_GROUND_PDU, 0, index.v, 0, at.c.at);
     let behind = Step { c: c, n: n };
     ground_message(words, behind, s, index.v)
 }
@@ -75,7 +75,7 @@ fn aircraft_pdu(words: &mut [u64], at: Step, s: &[u8]) -> Step
 {
     let index = bits(s, at.c, 2);
     let c = index.c;
-    let n = emit(words, at.n, tags::CM_AIRCRAFT_PDU, 0, index.v, 0);
+    let n = emit(words, at.n, tags::CM_AIRCRAFT_PDU, 0, index.v, 0, at.c.at);
     let behind = Step { c: c, n: n };
     aircraft_message(words, behind, s, index.v)
 }

@@ -20,8 +20,8 @@ returns-2 c =
     let first = c .before .before .before .before .before .before .before .pdu .ensures in
     record { is = rw (c .refused2 .ensures) (settle-full refl (frame-accepted (first .reads) (c .before .before .before .if1 .left)) (counted (first .told)) (c .before .before .words-for .ensures) (c .before .if2 .taken)) }
 
--- what fits 96 words fits the spare ones
-fits : (n : ℕ) (k : List ℕ) → n ≤ 96 → length k ≡ 96 → n ≤ length k
+-- what fits 120 words fits the spare ones
+fits : (n : ℕ) (k : List ℕ) → n ≤ 120 → length k ≡ 120 → n ≤ length k
 fits n k l e = omega arith
 
 array-share-prefix-spare : tie.Need-array-share-prefix-spare
