@@ -14,16 +14,16 @@ use Rattle.cursor.specs.declared.place.Got.{Got}
 use Rattle.cursor.specs.Place.{Reads, Takes}
 use Rattle.character_strings.specs.Texts.{Sized}
 use Rattle.field_ranges.specs.Ends.{lowest, highest}
-use Rattle.cursor.proofs.Laws.{reads-then, reads-ok, marked-nil}
+use Rattle.cursor.proofs.Laws.{reads-then, reads-ok, reads-here, marked-nil}
 use Rattle.runs.specs.declared.At.{At}
 use Rattle.optional_parts.specs.Parts.{Part}
 use Rattle.optional_parts.proofs.PartLaws.{reads-stay, part-none, part-within, part-same, part-then}
 use Rattle.optional_parts.proofs.ThenLaws.{times-end}
 
 -- the record of its place, and the leg
-pub reads-placed : {f : Fmt} {s : List ℕ} {c d : Cursor} {T : ℕ → List Rec} (t i : ℕ) → Takes f s c d T → Reads (λ e p. read (placed t f) (0, i) (bitOf s) e p) s c d ((rec t 0 i 0 ∷ []) ++ T 0)
+pub reads-placed : {f : Fmt} {s : List ℕ} {c d : Cursor} {T : ℕ → List Rec} (t i : ℕ) → Takes f s c d T → Reads (λ e p. read (placed t f) (0, i) (bitOf s) e p) s c d ((rec t 0 i 0 (c .at) ∷ []) ++ T 0)
 unfolding read
-reads-placed {f} {s} {c} t i h = reads-then (λ e p. ok p (rec t 0 i 0 ∷ []) 0) (λ e p. read f (0, i) (bitOf s) e p) (reads-ok (rec t 0 i 0 ∷ []) 0 (marked-nil c)) (h .took (0, i))
+reads-placed {f} {s} {c} t i h = reads-then (λ e p. ok p (rec t 0 i 0 p ∷ []) 0) (λ e p. read f (0, i) (bitOf s) e p) (reads-here (λ p. rec t 0 i 0 p ∷ []) 0 (marked-nil c)) (h .took (0, i))
 
 abbrev pub legsOf : List ℕ → ℕ → ℕ → ℕ → Ans
 legsOf s i e p = times (λ j q. read message.leg (0, j) (bitOf s) e q) 1 i p

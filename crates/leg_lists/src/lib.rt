@@ -18,14 +18,15 @@ fn put_leg(s: &[u8], words: &mut [u64], n: usize, c: Cursor, place: u64) -> At
     requires { ⌜ n < 2 ^ 26 ⌝ }
     ensures { λ r. ⌜ Part 158 (λ e p. read leg (0, place) (bitOf (now (s .entry))) e p) (now (s .entry)) c n (now (words .entry)) (now (words .exit)) r ⌝ }
 {
+    let at = c.at;
     let a = read_leg(s, c);
     let x = a.leg;
     let d = a.c;
     if d.why != 0 {
         return At { n: n, c: d };
     }
-    let m = emit(words, n, 96, 0, place, 0);
-    let k = tell_leg(words, m, s, x);
+    let m = emit(words, n, 96, 0, place, 0, at);
+    let k = tell_leg(words, m, s, at, x);
     At { n: k, c: d }
 }
 

@@ -21,27 +21,27 @@ fn tell_bearing(words: &mut [u64], n: usize, s: &[u8], x: Bearing) -> usize
     tell_quantity(words, m, 0, 55, 56, degrees)
 }
 
-// A leg stands outside the elements. What cannot be read has no records.
-pub fn tell_leg(words: &mut [u64], n: usize, s: &[u8], x: Leg) -> usize
+// A leg stands outside the elements, and starts at `at`. What cannot be read has no records.
+pub fn tell_leg(words: &mut [u64], n: usize, s: &[u8], at: usize, x: Leg) -> usize
     requires { ⌜ (n < 2 ^ 27) × HeldLeg (now s) x ⌝ }
-    ensures { λ m. ⌜ Told 157 (now (words .entry)) (now (words .exit)) n m (legRecs (now (s .entry)) x 0) ⌝ }
+    ensures { λ m. ⌜ Told 157 (now (words .entry)) (now (words .exit)) n m (legRecs (now (s .entry)) at x 0) ⌝ }
 {
     match x {
         Leg::Place(place) => {
-            let m = emit(words, n, 97, 0, 0, 0);
+            let m = emit(words, n, 97, 0, 0, 0, at);
             tell_published(words, m, 0, s, place)
         }
         Leg::Coordinates(pair) => {
-            let m = emit(words, n, 97, 0, 1, 0);
+            let m = emit(words, n, 97, 0, 1, 0, at);
             tell_pair(words, m, 0, pair)
         }
         Leg::Between(first, second) => {
-            let m = emit(words, n, 97, 0, 2, 0);
+            let m = emit(words, n, 97, 0, 2, 0, at);
             let k = tell_bearing(words, m, s, first);
             tell_bearing(words, k, s, second)
         }
         Leg::Designator(name) => {
-            let m = emit(words, n, 97, 0, 4, 0);
+            let m = emit(words, n, 97, 0, 4, 0, at);
             tell_text(words, m, 101, 0, s, name)
         }
         Leg::Unread => n,
