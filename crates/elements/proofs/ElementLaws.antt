@@ -9,7 +9,7 @@ use Rattle.x691.specs.Bits.{bitOf}
 use Rattle.x691.specs.Encoding.{width, count, highest}
 use Rattle.atn.specs.Format.{Fmt, bad, choice, alternativesOf}
 use Rattle.atn.specs.Messages.{arguments, noReader, argumentOf, elements}
-use Rattle.atn.specs.Reading.{Rec, rec, Ctx, Ans, ok, stop, then, or, mark, times, laxly, read, readChoice}
+use Rattle.atn.specs.Reading.{Rec, rec, Ctx, Ans, ok, stop, then, or, mark, times, laxly, pull, read, readChoice}
 use Rattle.atn.proofs.Tame.{tame}
 use Rattle.atn.proofs.Firm.{isPast, firm-read}
 use Rattle.atn.proofs.Elements.{elements-firm}
@@ -82,15 +82,18 @@ module _ (k i : ℕ) {s : List ℕ} {c d : Cursor} {T : ℕ → List Rec} (h : T
 ---------------------------------------------------------------- an element
 
 module _ (table : List ℕ) (i : ℕ) {s : List ℕ} {c : Cursor} {b : ℕ} {g : Got} (width-is : b ≡ width (length table - 1)) (pulls : Pulls s c b g) where
+  -- behind the index, which starts where the element does
   abbrev indexed : ℕ → ℕ → ℕ → Ans
-  indexed v u p = then (ok p (rec 22 i v 0 ∷ []) 0) (λ q. readChoice (elements table) v (i, i) (bitOf s) u q)
+  indexed v u p = then (ok p (rec 22 i v 0 (c .at) ∷ []) 0) (λ q. readChoice (elements table) v (i, i) (bitOf s) u q)
 
   wide : Pulls s c (width (highest (alternativesOf (elements table)))) g
   wide = rw (width-is ∙ sym (index-bits table)) at pulls
 
   from-index : {a n : ℕ} {w w′ : List ℕ} {r : At} → Runs a (λ u p. indexed (g .v) u p) s (g .c) n w w′ r → Runs a (elementAt table i s) s c n w w′ r
   unfolding elementAt read
-  from-index y = runs-pull (width (highest (alternativesOf (elements table)))) g indexed wide y
+  from-index y =
+      let w : ℕ = width (highest (alternativesOf (elements table))) in
+      runs-same (λ u p. pull (bitOf s) u p w (λ v. indexed v u (p + w))) (elementAt table i s) (λ _ _. refl) (runs-pull w g indexed wide y)
 
   pub element-stuck : {n : ℕ} {w : List ℕ} → (g .c .why ≡ 0 → ⊥) → Runs 0 (elementAt table i s) s c n w w (record { n = n; c = g .c })
   element-stuck h = from-index (runs-stayed (λ u p. indexed (g .v) u p) h)
@@ -101,12 +104,12 @@ module _ (table : List ℕ) (i : ℕ) {s : List ℕ} {c : Cursor} {b : ℕ} {g :
   element-outside {d} l z q =
       runs-untold (elementAt table i s) (takes-unlisted 22 (elements table) {T = λ _. []} g wide (λ x u p. outside table (g .v) x (bitOf s) u p l) q .took (i, i)) (λ y. let e : 5 ≡ 0 = rw (q, z) at y in omega arith)
 
-  pub element-read : {a n m : ℕ} {w w₁ w₂ : List ℕ} {r : At} → g .v < length table → g .c .why ≡ 0 → Told 1 w w₁ n m (rec 22 i (g .v) 0 ∷ []) → Runs a (argumentAt (getD table (g .v) 0) i s) s (g .c) m w₁ w₂ r → Runs (1 + a) (elementAt table i s) s c n w w₂ r
+  pub element-read : {a n m : ℕ} {w w₁ w₂ : List ℕ} {r : At} → g .v < length table → g .c .why ≡ 0 → Told 1 w w₁ n m (rec 22 i (g .v) 0 (c .at) ∷ []) → Runs a (argumentAt (getD table (g .v) 0) i s) s (g .c) m w₁ w₂ r → Runs (1 + a) (elementAt table i s) s c n w w₂ r
   unfolding argumentAt isPast
   element-read l z t y =
       from-index
-      (runs-then (λ u p. ok p (rec 22 i (g .v) 0 ∷ []) 0) (λ u p. readChoice (elements table) (g .v) (i, i) (bitOf s) u p) (λ u p. refl)
-      (runs-told (λ u p. ok p (rec 22 i (g .v) 0 ∷ []) 0) (reads-ok (rec 22 i (g .v) 0 ∷ []) 0 (marked-nil (g .c))) z t)
+      (runs-then (λ u p. ok p (rec 22 i (g .v) 0 (c .at) ∷ []) 0) (λ u p. readChoice (elements table) (g .v) (i, i) (bitOf s) u p) (λ u p. refl)
+      (runs-told (λ u p. ok p (rec 22 i (g .v) 0 (c .at) ∷ []) 0) (reads-ok (rec 22 i (g .v) 0 (c .at) ∷ []) 0 (marked-nil (g .c))) z t)
       (runs-same (argumentAt (getD table (g .v) 0) i s) (λ u p. readChoice (elements table) (g .v) (i, i) (bitOf s) u p) (λ _ _. sym (listed table (g .v) (i, i) (bitOf s) (g .c .end) (g .c .at) l)) y))
 
 ---------------------------------------------------------------- the walk

@@ -58,7 +58,7 @@ pub fn read_element(s: &[u8], words: &mut [u64], x: At, table: &[u8], i: u64) ->
     }
     let v = g.v as usize;
     if v < table.len() {
-        let m = emit(words, n, 22, i, g.v, 0);
+        let m = emit(words, n, 22, i, g.v, 0, x.c.at);
         let y = At { n: m, c: c };
         return read_told_argument(s, words, y, table[v], i);
     }
