@@ -22,7 +22,7 @@ use Rattle.atn.proofs.Steps.{then-nil, fetch-go, fetch-no, pull-go, pull-no}
 use Rattle.cursor.specs.declared.place.Cursor.{Cursor}
 use Rattle.cursor.specs.declared.place.Got.{Got}
 use Rattle.cursor.specs.Place.{number, put, marked, stopped, Inside, Pulled, stuck, short, got, Pulls, Reads}
-use Rattle.cursor.proofs.Laws.{reads-same, reads-then, reads-ok, pull-then, marked-nil, bit-of, Behind}
+use Rattle.cursor.proofs.Laws.{reads-here, reads-same, reads-then, reads-ok, pull-then, marked-nil, bit-of, Behind}
 use Rattle.length_determinants.proofs.LengthLaws.{reads-mark}
 use Rattle.records.specs.Told.{Told}
 use Rattle.records.proofs.Telling.{told-none, told-then, told-within}
@@ -69,7 +69,7 @@ unfolding uint
 nothing-left b e = let q : e - e ≡ 0 = omega arith in rw q
 
 -- the record of its place, and then the parts
-clearance-loose : (i : ℕ) (b : ℕ → ℕ) (e at : ℕ) → read routeClearance (0, i) b e at ≡ glue (rec 80 0 i 0 ∷ []) 0 (read (loose clearanceFields) (0, i) b e at)
+clearance-loose : (i : ℕ) (b : ℕ → ℕ) (e at : ℕ) → read routeClearance (0, i) b e at ≡ glue (rec 80 0 i 0 at ∷ []) 0 (read (loose clearanceFields) (0, i) b e at)
 unfolding read then
 clearance-loose i b e at = refl
 
@@ -91,7 +91,7 @@ module _ {s : List ℕ} {c : Cursor} where
 
 module _ {s : List ℕ} {c : Cursor} {v : ℕ} (i : ℕ) (z : c .why ≡ 0) (h : Inside s c → c .end < c .at + 9) (x : Rest s c v) where
   abbrev first : Rec
-  first = rec 80 0 i 0
+  first = rec 80 0 i 0 (c .at)
 
   left : Inside s c → v ≡ uint (bitOf s) (c .at) (c .end - c .at)
   left k = x .bits k z (h k)
@@ -156,14 +156,14 @@ told-end S (stop lack q T n) h y = let z : _≡_ {A = ℕ} 0 1 = cc in absurd (o
 told-end S (stop (quit o j t) q T n) h y = let z : _≡_ {A = ℕ} 0 1 = cc in absurd (omega arith)
 
 pub attempt-end : (i : ℕ) (b : ℕ → ℕ) (e at : ℕ) {k p m : ℕ} {R : List Rec} → at ≤ e → attempt b i e at ≡ past k p R m → p ≡ e
-attempt-end i b e at {k} {p} {m} {R} l q = told-end (rec 80 0 i 0 ∷ []) (loosely i b e at) (loose-end i b e at l) (sym (ap (laxly 7 true) (clearance-loose i b e at)) ∙ q)
+attempt-end i b e at {k} {p} {m} {R} l q = told-end (rec 80 0 i 0 at ∷ []) (loosely i b e at) (loose-end i b e at l) (sym (ap (laxly 7 true) (clearance-loose i b e at)) ∙ q)
 
 -- wholly beyond the window
-pub clearance-beyond : (i : ℕ) (b : ℕ → ℕ) (e : ℕ) → read routeClearance (0, i) b e e ≡ past 1 e (rec 80 0 i 0 ∷ []) 0
+pub clearance-beyond : (i : ℕ) (b : ℕ → ℕ) (e : ℕ) → read routeClearance (0, i) b e e ≡ past 1 e (rec 80 0 i 0 e ∷ []) 0
 unfolding flags glue
 clearance-beyond i b e =
     clearance-loose i b e e
-    ∙ rw (loose-none b e (0, i) e (clearance-wants _ _ _) (omega arith) (omega arith) (omega arith) (nothing-left b e)) (ap (past 1 e (rec 80 0 i 0 ∷ [])) (or-nil 0))
+    ∙ rw (loose-none b e (0, i) e (clearance-wants _ _ _) (omega arith) (omega arith) (omega arith) (nothing-left b e)) (ap (past 1 e (rec 80 0 i 0 e ∷ [])) (or-nil 0))
 
 ---------------------------------------------------------------- all nine are there
 
@@ -215,7 +215,7 @@ module _ {s : List ℕ} {c : Cursor} (g : Got) (x : Pulls s c 9 g) (z : g .c .wh
       go (short h l q) = h
       go (got h l v q) = h
 
-  pub clearance-whole : {b : ℕ} {d : Cursor} {n m : ℕ} {w w₁ w₂ : List ℕ} {r : At} (i : ℕ) → Told 1 w w₁ n m (rec 80 0 i 0 ∷ []) → d ≡ marked (g .c) (g .v % 2 * 8) → Fields b clearanceFields 0 (g .v) s d m w₁ w₂ r → Runs (1 + b) (λ e p. read routeClearance (0, i) (bitOf s) e p) s c n w w₂ r
+  pub clearance-whole : {b : ℕ} {d : Cursor} {n m : ℕ} {w w₁ w₂ : List ℕ} {r : At} (i : ℕ) → Told 1 w w₁ n m (rec 80 0 i 0 (c .at) ∷ []) → d ≡ marked (g .c) (g .v % 2 * 8) → Fields b clearanceFields 0 (g .v) s d m w₁ w₂ r → Runs (1 + b) (λ e p. read routeClearance (0, i) (bitOf s) e p) s c n w w₂ r
   unfolding read
   clearance-whole {r = r} i t q y =
       let f = y .run i in
@@ -223,8 +223,8 @@ module _ {s : List ℕ} {c : Cursor} (g : Got) (x : Pulls s c 9 g) (z : g .c .wh
       let loosely : Reads (λ e p. read (loose clearanceFields) (0, i) (bitOf s) e p) s c (r .c) (f .recs) =
       record { led = λ k. reads-same (Behind s 9 (fieldsBehind s i)) (λ e p. read (loose clearanceFields) (0, i) (bitOf s) e p) (nine s i (c .end) (c .at) (room k)) behind .led k } in
       part-runs (record {
-        recs = (rec 80 0 i 0 ∷ []) ++ f .recs;
-        reads = reads-then (λ e p. ok p (rec 80 0 i 0 ∷ []) 0) (λ e p. read (loose clearanceFields) (0, i) (bitOf s) e p) (reads-ok (rec 80 0 i 0 ∷ []) 0 (marked-nil c)) loosely;
+        recs = (rec 80 0 i 0 (c .at) ∷ []) ++ f .recs;
+        reads = reads-then (λ e p. ok p (rec 80 0 i 0 p ∷ []) 0) (λ e p. read (loose clearanceFields) (0, i) (bitOf s) e p) (reads-here (λ p. rec 80 0 i 0 p ∷ []) 0 (marked-nil c)) loosely;
         quiet = λ k h. absurd (h (going k));
         told = told-then t (f .told);
       })
@@ -258,16 +258,16 @@ module _ {b v : ℕ} {s : List ℕ} {c : Cursor} {n : ℕ} {w w₁ : List ℕ} {
   -- no more is there
   pub route-alone : v % 2 ≡ 0 → Fields (b + 1) routeFields 0 v s c n w w₁ r
   unfolding chosen flags
-  route-alone z = record { run = λ i. part-then (x .run i) (part-within (part-then (part-clear (λ e p. ok p (rec 102 0 1 0 ∷ []) (mark 4)) (v / 2 ^ 0 % 2) (omega arith)) part-none) 1 (omega arith)) }
+  route-alone z = record { run = λ i. part-then (x .run i) (part-within (part-then (part-clear (λ e p. ok p (rec 102 0 1 0 p ∷ []) (mark 4)) (v / 2 ^ 0 % 2) (omega arith)) part-none) 1 (omega arith)) }
 
   pub route-stopped : (r .c .why ≡ 0 → ⊥) → Fields (b + 1) routeFields 0 v s c n w w₁ r
   unfolding chosen flags
   route-stopped h = record { run = λ i. part-then (x .run i) (part-within (part-still h) 1 (omega arith)) }
 
-  pub route-additional : {d : Cursor} {m : ℕ} {w₂ : List ℕ} → (v % 2 ≡ 0 → ⊥) → r .c .why ≡ 0 → d ≡ marked (r .c) 8 → Told 1 w₁ w₂ (r .n) m (rec 102 0 1 0 ∷ []) → Fields (b + 1) routeFields 0 v s c n w w₂ (record { n = m; c = d })
+  pub route-additional : {d : Cursor} {m : ℕ} {w₂ : List ℕ} → (v % 2 ≡ 0 → ⊥) → r .c .why ≡ 0 → d ≡ marked (r .c) 8 → Told 1 w₁ w₂ (r .n) m (rec 102 0 1 0 (r .c .at) ∷ []) → Fields (b + 1) routeFields 0 v s c n w w₂ (record { n = m; c = d })
   unfolding chosen flags mark
   route-additional n z q t =
-      record { run = λ i. part-then (x .run i) (part-then (part-set (part-told {k = λ e p. ok p (rec 102 0 1 0 ∷ []) 8} (reads-ok (rec 102 0 1 0 ∷ []) 8 q) (marked-goes (r .c) 8 q z) t) (v / 2 ^ 0 % 2) (λ h. n (omega arith))) part-none) }
+      record { run = λ i. part-then (x .run i) (part-then (part-set (part-told {k = λ e p. ok p (rec 102 0 1 0 p ∷ []) 8} (reads-here (λ p. rec 102 0 1 0 p ∷ []) 8 q) (marked-goes (r .c) 8 q z) t) (v / 2 ^ 0 % 2) (λ h. n (omega arith))) part-none) }
 
 -- the three groups in a row
 pub fields-all : {a b o v : ℕ} {s : List ℕ} {c : Cursor} {n : ℕ} {w w₁ w₂ w₃ : List ℕ} {r t u : At} → Fields a departureFields 5 v s c n w w₁ r → Fields b arrivalFields 2 v s (r .c) (r .n) w₁ w₂ t → Fields o routeFields 0 v s (t .c) (t .n) w₂ w₃ u

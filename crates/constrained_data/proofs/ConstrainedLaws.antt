@@ -1,5 +1,5 @@
 -- One or two clearances in a row, and the constrained data from its head and them.
-use mathlib.Core.Path.{_≡_, refl, sym, _∙_}
+use mathlib.Core.Path.{_≡_, refl, sym, ap, _∙_}
 use mathlib.Core.Bool.{Bool, true, false}
 use mathlib.Core.List.{List, [], _∷_, _++_}
 use Prim.Native.Nat.{ℕ, _+_, _-_, _%_, _≤_}
@@ -40,7 +40,7 @@ unfolding times
 two-attempts b e at = then-same (attempt b 1 e at) _ _ (λ q. sym (then-end (attempt b 2 e q)))
 
 -- a second clearance behind one that has passed the window's end
-second-beyond : (b : ℕ → ℕ) (e at l : ℕ) (R : List Rec) (m : ℕ) → attempt b 1 e at ≡ past l e R m → then (attempt b 1 e at) (λ q. attempt b 2 e q) ≡ past l e (R ++ (rec 80 0 2 0 ∷ [])) m
+second-beyond : (b : ℕ → ℕ) (e at l : ℕ) (R : List Rec) (m : ℕ) → attempt b 1 e at ≡ past l e R m → then (attempt b 1 e at) (λ q. attempt b 2 e q) ≡ past l e (R ++ (rec 80 0 2 0 e ∷ [])) m
 unfolding then late laxly
 second-beyond b e at l R m h = rw (h, clearance-beyond 2 b e, or-nil m)
 
@@ -73,15 +73,16 @@ module _ {s : List ℕ} {c : Cursor} {n : ℕ} where
     attempts-stopped z h = next h (runs-stayed _ z)
 
     -- the first has passed the window's end: the second is there, with nothing in it
-    pub attempts-passed : {m : ℕ} {w₂ : List ℕ} → c .why ≡ 0 → x .c .why ≡ 7 → Told 1 w₁ w₂ (x .n) m (rec 80 0 2 0 ∷ []) → Runs (a + 1) (λ e p. attempts (bitOf s) 2 e p) s c n w w₂ (record { n = m; c = x .c })
-    attempts-passed z h t = record { recs = f .recs ++ (rec 80 0 2 0 ∷ []); ran = λ i. go i (f .ran i); told = told-then (f .told) t }
+    pub attempts-passed : {m : ℕ} {w₂ : List ℕ} → c .why ≡ 0 → x .c .why ≡ 7 → Told 1 w₁ w₂ (x .n) m (rec 80 0 2 0 (x .c .at) ∷ []) → Runs (a + 1) (λ e p. attempts (bitOf s) 2 e p) s c n w w₂ (record { n = m; c = x .c })
+    attempts-passed z h t = record { recs = f .recs ++ (rec 80 0 2 0 (x .c .at) ∷ []); ran = λ i. go i (f .ran i); told = told-then (f .told) t }
       where
-        go : Inside s c → Ran (λ e p. attempt (bitOf s) 1 e p) c (x .c) (f .recs) → Ran (λ e p. attempts (bitOf s) 2 e p) c (x .c) (f .recs ++ (rec 80 0 2 0 ∷ []))
+        go : Inside s c → Ran (λ e p. attempt (bitOf s) 1 e p) c (x .c) (f .recs) → Ran (λ e p. attempts (bitOf s) 2 e p) c (x .c) (f .recs ++ (rec 80 0 2 0 (x .c .at) ∷ []))
         go i (stayed g q r) = absurd (g z)
         go i (went p m y e l q) = absurd (let u : 0 ≡ 7 = rw q at h in omega arith)
         go i (passed lacked p m y e l q) =
             let o : p ≡ c .end = attempt-end 1 (bitOf s) (c .end) (c .at) (i .0) e in
-            passed lacked p m y (sym (two-attempts (bitOf s) (c .end) (c .at)) ∙ second-beyond (bitOf s) (c .end) (c .at) lacked (f .recs) m (rw o at e) ∙ rw o) l q
+            let a : x .c .at ≡ c .end = ap (λ (d : Cursor). d .at) q ∙ o in
+            passed lacked p m y (sym (two-attempts (bitOf s) (c .end) (c .at)) ∙ second-beyond (bitOf s) (c .end) (c .at) lacked (f .recs) m (rw o at e) ∙ rw (a, o)) l q
         go i (gaveUp o j v p m y e l q) = absurd (given-seven j (rw q at h))
         go i (failed v p m S g y e l q) = absurd (seven v (rw q at h))
 
@@ -105,7 +106,7 @@ module _ {b m : ℕ} {s : List ℕ} {c : Cursor} {n : ℕ} (z : c .why ≡ 0) wh
           ends = λ i. attempt-ends 2 h g (ran-inside _ s c (x .c) (f .ran i) i);
         }
 
-    pub clears-passed : {w₂ : List ℕ} {k : ℕ} → a + 1 ≤ b → m ≡ 2 → x .c .why ≡ 7 → Told 1 w₁ w₂ (x .n) k (rec 80 0 2 0 ∷ []) → Clears b m s c n w w₂ (record { n = k; c = x .c })
+    pub clears-passed : {w₂ : List ℕ} {k : ℕ} → a + 1 ≤ b → m ≡ 2 → x .c .why ≡ 7 → Told 1 w₁ w₂ (x .n) k (rec 80 0 2 0 (x .c .at) ∷ []) → Clears b m s c n w w₂ (record { n = k; c = x .c })
     clears-passed l q h t = record { runs = rw q (runs-within b _ l (attempts-passed f z h t)); ends = attempt-ends 1 z f }
 
     pub clears-stopped : a + 0 ≤ b → m ≡ 2 → (x .c .why ≡ 0 → ⊥) → (x .c .why ≡ 7 → ⊥) → Clears b m s c n w w₁ x

@@ -31,7 +31,7 @@ fn read_clearances(s: &[u8], words: &mut [u64], n: usize, c: Cursor, count: u64)
         return try_clearance(s, words, k, d, 2);
     }
     if d.why == 7 {
-        let m = emit(words, k, 80, 0, 2, 0);
+        let m = emit(words, k, 80, 0, 2, 0, d.at);
         return At { n: m, c: d };
     }
     first
