@@ -1,12 +1,15 @@
 -- A message in its inner string.
 use mathlib.Core.Path.{_≡_}
 use mathlib.Core.List.{List}
-use Prim.Native.Nat.{ℕ}
+use Prim.Native.Nat.{ℕ, _-_, _*_, _≤_}
 use native.Mathlib.Omega.{arith}
+use lib.ListN.{length}
 use Rattle.atn.specs.Messages.{atcMessage}
 use Rattle.atn.proofs.Elements.{message-placeless}
 use Rattle.cursor.specs.declared.place.Cursor.{Cursor}
 use Rattle.message.specs.Data.{messageAt}
+use Rattle.records.specs.Space.{space}
+use Rattle.records.specs.Moves.{raisedPlaces}
 use Rattle.runs.specs.declared.At.{At}
 use Rattle.runs.specs.Runs.{Runs}
 use Rattle.runs.specs.Windows.{closed}
@@ -21,7 +24,7 @@ module _ (table : List ℕ) {b : ℕ} {s : List ℕ} {c d : Cursor} {n : ℕ} {w
   unfolding innerAt
   string-lost x = runs-within b (innerAt table s) (omega arith) (runs-tells (innerAt table s) goes (tells-lost (atcMessage table) (message-placeless table) x))
 
-  pub string-read : {from to : ℕ} {window e : Cursor} {w′ : List ℕ} {r : At} → Has s c from to window d → Runs b (messageAt table (bytes s from to)) (bytes s from to) window n w w′ r → e ≡ closed d (r .c)
-      → Runs b (innerAt table s) s c n w w′ (record { n = r .n; c = e })
+  pub string-read : {from to : ℕ} {window e : Cursor} {w₁ w₂ : List ℕ} {r : At} → length s ≤ 65536 → Has s c from to window d → Runs b (messageAt table (bytes s from to)) (bytes s from to) window n w w₁ r → w₂ ≡ raisedPlaces (8 * from) (r .n - n) (space n) w₁ → e ≡ closed d (r .c)
+      → Runs b (innerAt table s) s c n w w₂ (record { n = r .n; c = e })
   unfolding innerAt messageAt
-  string-read h x q = rw q (runs-tells (innerAt table s) goes (tells-read (atcMessage table) (message-placeless table) h x))
+  string-read few h x y q = rw (q, y) (runs-tells (innerAt table s) goes (tells-read (atcMessage table) (message-placeless table) few h x))
