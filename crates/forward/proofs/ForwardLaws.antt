@@ -2,8 +2,9 @@
 use mathlib.Core.Path.{_≡_, refl, sym, ap, _∙_}
 use mathlib.Core.Bool.{Bool, true, false, cond}
 use mathlib.Core.List.{List, [], _∷_, _++_, append-nil}
-use Prim.Native.Nat.{ℕ, zero, suc, _+_, _%_, _<_}
+use Prim.Native.Nat.{ℕ, zero, suc, _+_, _-_, _*_, _%_, _≤_, _<_}
 use native.Mathlib.Omega.{arith}
+use lib.ListN.{length}
 use lib.Dec.{eqb}
 use borrow.Author.Tests.{eqb-true, eqb-false, ne-eqb}
 use Rattle.x691.specs.Bits.{bitOf}
@@ -18,10 +19,12 @@ use Rattle.cursor.specs.declared.place.Cursor.{Cursor}
 use Rattle.cursor.specs.declared.place.Got.{Got}
 use Rattle.cursor.specs.Place.{Inside, Pulls, Led, Reads}
 use Rattle.cursor.specs.Place as place
-use Rattle.cursor.proofs.Laws.{reads-same, reads-then, reads-ok, marked-nil, pull-then}
+use Rattle.cursor.proofs.Laws.{reads-same, reads-then, reads-ok, marked-nil, pull-from}
 use Rattle.length_determinants.proofs.LengthLaws.{known-some}
 use Rattle.cursor.proofs.FormatLaws.{allRead, reads-plain, reads-going, takes-back}
 use Rattle.records.specs.Told.{Told}
+use Rattle.records.specs.Space.{space}
+use Rattle.records.specs.Moves.{raisedPlaces}
 use Rattle.records.proofs.Telling.{told-none, told-then, told-within}
 use Rattle.runs.specs.declared.At.{At}
 use Rattle.runs.specs.Runs.{Ran, failed, Runs}
@@ -72,13 +75,13 @@ module _ (down up : List ℕ) where
 
   module _ {s : List ℕ} {c e : Cursor} {h : HeaderAt} {g : Got} {R : List Rec} (x : Headers s c h) (pulls : Pulls s (h .c) 1 g) (y : Reads (carriedAt (g .v) s) s (g .c) e R) where
     abbrev told : List Rec
-    told = rec 21 0 (g .v) 0 ∷ R
+    told = rec 21 0 (g .v) 0 (h .c .at) ∷ R
 
     direction-choice : Inside s (h .c) → Reads (λ u p. read (choice tag.carried-direction directions) (0, 0) (bitOf s) u p) s (h .c) e told
     unfolding read width widthIn highest count
     direction-choice j =
-        pull-then 1 g (λ v u q. then (ok q (rec 21 0 v 0 ∷ []) 0) λ r. readChoice directions v (0, 0) (bitOf s) u r) pulls
-        (reads-then (λ u q. ok q (rec 21 0 (g .v) 0 ∷ []) 0) (λ u r. readChoice directions (g .v) (0, 0) (bitOf s) u r) (reads-ok _ 0 (marked-nil (g .c)))
+        pull-from 1 g (λ a v u q. then (ok q (rec 21 0 v 0 a ∷ []) 0) λ r. readChoice directions v (0, 0) (bitOf s) u r) pulls
+        (reads-then (λ u q. ok q (rec 21 0 (g .v) 0 (h .c .at) ∷ []) 0) (λ u r. readChoice directions (g .v) (0, 0) (bitOf s) u r) (reads-ok _ 0 (marked-nil (g .c)))
         (reads-going (carriedAt (g .v) s) (λ u r. readChoice directions (g .v) (0, 0) (bitOf s) u r) (λ z. direction-read (g .v) s (g .c .end) (g .c .at) (known-some z pulls .below j)) y))
 
     body-read : Reads (bodyAt s) s c e (headerRecs s (h .header) 0 ++ told)
@@ -144,16 +147,16 @@ module _ (down up : List ℕ) {s : List ℕ} {c : Cursor} {h : HeaderAt} {g : Go
       let tells = tells-lost (data-of (g .v) down up) {n = n} {w = w} (data-of-placeless (g .v) down up) lacks in
       record { recs = []; ran = λ i. forward-soft down up s (soft-forgiven (bodyAt down up s) (body-read down up x pulls (tells .reads) .led i) goes (lacks .stops) f); told = told-within b (omega arith) told-none }
 
-  pub forward-read : {from to a k : ℕ} {window d e : Cursor} {w₁ w₂ w₃ : List ℕ} {r : At} → Has s (g .c) from to window d → Told 71 w w₁ n a (headerRecs s (h .header) 0) → Told 1 w₁ w₂ a k (rec 21 0 (g .v) 0 ∷ [])
-      → Runs 236050 (laxData (carriedTable (g .v) down up) (bytes s from to)) (bytes s from to) window k w₂ w₃ r → e ≡ closed d (r .c) → Runs 236122 (forwardAt down up s) s c n w w₃ (record { n = r .n; c = e })
+  pub forward-read : {from to a k : ℕ} {window d e : Cursor} {w₁ w₂ w₃ w₄ : List ℕ} {r : At} → length s ≤ 65536 → Has s (g .c) from to window d → Told 71 w w₁ n a (headerRecs s (h .header) 0) → Told 1 w₁ w₂ a k (rec 21 0 (g .v) 0 (h .c .at) ∷ [])
+      → Runs 236050 (laxData (carriedTable (g .v) down up) (bytes s from to)) (bytes s from to) window k w₂ w₃ r → w₄ ≡ raisedPlaces (8 * from) (r .n - k) (space k) w₃ → e ≡ closed d (r .c) → Runs 236122 (forwardAt down up s) s c n w w₄ (record { n = r .n; c = e })
   unfolding closed laxData
-  forward-read {from} {to} {d = d} {r = r} has t₁ t₂ y q =
-      let tells = tells-read (data-of (g .v) down up) (data-of-placeless (g .v) down up) has (given-up (carriedTable (g .v) down up) y) in
+  forward-read {from} {to} {d = d} {r = r} short has t₁ t₂ y v q =
+      let tells = tells-read (data-of (g .v) down up) (data-of-placeless (g .v) down up) short has (given-up (carriedTable (g .v) down up) y) in
       record {
-        recs = headerRecs s (h .header) 0 ++ (rec 21 0 (g .v) 0 ∷ tells .recs);
+        recs = headerRecs s (h .header) 0 ++ (rec 21 0 (g .v) 0 (h .c .at) ∷ tells .recs);
         ran = λ i.
             let ends = lax-ends (dataAt (carriedTable (g .v) down up) (bytes s from to)) 7 false (window-goes has) (y .ran (window-inside has)) in
             let neither = closed-neither (r .c .why) (ends .0) (ends .1) in
             rw q (forward-soft down up s (soft-went 7 (bodyAt down up s) (body-read down up x pulls (tells .reads) .led i) goes (neither .0) (neither .1)));
-        told = told-then t₁ (told-then t₂ (tells .told));
+        told = rw v (told-then t₁ (told-then t₂ (tells .told)));
       }

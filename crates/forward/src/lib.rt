@@ -12,6 +12,7 @@ use inner_messages::try_data;
 use inner_strings::Inner;
 use inner_strings::find_string;
 use records::emit;
+use records::places::move_places;
 use runs::At;
 use runs::windows::close_window;
 
@@ -77,9 +78,12 @@ pub fn read_forward(s: &[u8], words: &mut [u64], n: usize, c: Cursor, down: &[u8
         }
         Inner::Found(from, to, window, d) => {
             let a = tell_header(words, n, s, header);
-            let b = emit(words, a, 21, 0, g.v, 0);
+            let b = emit(words, a, 21, 0, g.v, 0, h.c.at);
             let x = read_carried(&s[from..to], words, b, window, g.v, down, up);
             let m = x.n;
+            // they were told with places in the string's bytes
+            let by = 8 * from;
+            move_places(words, b, m, by);
             let e = close_window(d, x.c);
             At { n: m, c: e }
         }

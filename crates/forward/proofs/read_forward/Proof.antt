@@ -1,6 +1,6 @@
 use native.Mathlib.Omega.{arith}
 use borrow.Author.Needs.{needs}
-use Rattle.records.proofs.Telling.{told-length, told-then}
+use Rattle.records.proofs.Telling.{told-length}
 use Rattle.runs.proofs.RunLaws.{runs-stayed, runs-within}
 use Rattle.inner_strings.proofs.StringLaws.{lost, found}
 use Rattle.forward.proofs.ForwardLaws.{forward-lost, forward-read}
@@ -33,14 +33,24 @@ read-carried-requires c κs = (omega (arith, c .before .before .before .before .
 returns-2 : tie.Need-returns-2
 returns-2 c = forward-lost _ _ (c .before .before .before .before .before .before .before .before .if1 .left) (c .before .before .before .before .before .before .before .read-header .ensures) (c .before .before .before .before .before .bits .ensures) (lost (c .before .before .d .given .1) (c .before .before .before .before .find-string .ensures)) (c .forgive .ensures)
 
-same-length : tie.Need-same-length
-same-length c = told-length (told-then (c .before .before .before .before .before .before .before .before .before .before .before .before .tell-header .ensures) (told-then (c .before .before .before .before .before .before .before .before .emit .ensures) (c .before .before .before .read-carried .ensures .told)))
+mul-by : tie.Need-mul-by
+mul-by c =
+    let h = found (c .before .before .before .before .before .before .before .before .before .before .before .before .before .before .from .given .1) (c .before .before .before .before .before .before .before .before .before .before .before .before .before .before .before .before .find-string .ensures) in
+    omega (arith, h .ordered, h .held, c .before .before .before .before .before .before .before .before .before .before .before .before .before .before .before .before .before .before .before .before .before .before .before .before .before .before .pre .0)
+
+move-places-requires : tie.Need-move-places-requires
+move-places-requires c κs = omega (arith, c .before .before .before .read-carried .ensures .told .few, c .before .before .before .before .before .before .before .before .emit .ensures .few, c .before .before .before .before .before .before .before .before .before .before .before .before .tell-header .ensures .few, c .before .before .before .before .before .before .before .before .before .before .before .before .before .before .before .before .before .before .before .before .before .before .before .before .before .before .before .pre .1)
 
 returns-3 : tie.Need-returns-3
-returns-3 c = forward-read _ _ (c .before .before .before .before .before .before .before .before .before .before .before .before .before .before .before .before .before .before .before .before .before .if1 .left) (c .before .before .before .before .before .before .before .before .before .before .before .before .before .before .before .before .before .before .before .before .read-header .ensures) (c .before .before .before .before .before .before .before .before .before .before .before .before .before .before .before .before .before .before .bits .ensures) (found (c .before .before .before .before .before .before .before .before .before .before .before .before .before .before .before .from .given .1) (c .before .before .before .before .before .before .before .before .before .before .before .before .before .before .before .before .before .find-string .ensures)) (c .before .before .before .before .before .before .before .before .before .before .before .before .tell-header .ensures) (c .before .before .before .before .before .before .before .before .emit .ensures) (c .before .before .before .read-carried .ensures) (c .close-window .ensures)
+returns-3 c =
+    forward-read _ _ (c .before .before .before .before .before .before .before .before .before .before .before .before .before .before .before .before .before .before .before .before .before .before .before .before .before .if1 .left) (c .before .before .before .before .before .before .before .before .before .before .before .before .before .before .before .before .before .before .before .before .before .before .before .before .read-header .ensures) (c .before .before .before .before .before .before .before .before .before .before .before .before .before .before .before .before .before .before .before .before .before .before .bits .ensures) (c .before .before .before .before .before .before .before .before .before .before .before .before .before .before .before .before .before .before .before .before .before .before .before .before .before .before .before .before .before .before .before .pre .0) (found (c .before .before .before .before .before .before .before .before .before .before .before .before .before .before .before .before .before .before .before .from .given .1) (c .before .before .before .before .before .before .before .before .before .before .before .before .before .before .before .before .before .before .before .before .before .find-string .ensures))
+    (c .before .before .before .before .before .before .before .before .before .before .before .before .before .before .before .before .tell-header .ensures) (c .before .before .before .before .before .before .before .before .before .before .before .before .emit .ensures) (c .before .before .before .before .before .before .before .read-carried .ensures) (c .before .before .before .move-places .ensures) (c .close-window .ensures)
+
+same-length : tie.Need-same-length
+same-length c = told-length (returns-3 c .told)
 
 pub read-forward-spec : {M : Type 1} → statement M
 read-forward-spec =
     tie.close
     (tie.spec returns (λ c κs. search needs) (λ c κs. search needs) (λ c κs. search needs) (λ c. search needs) (λ c κs. search needs) (λ c. search needs) tell-header-requires emit-requires sub-read-carried part-read-carried-start
-    part-read-carried-end read-carried-requires (λ c κs. search needs) returns-2 same-length returns-3)
+    part-read-carried-end read-carried-requires mul-by move-places-requires (λ c κs. search needs) returns-2 same-length returns-3)
