@@ -58,7 +58,7 @@ unfolding indexBits width widthIn encoding.highest count
 index-is zero down up = refl
 index-is (suc d) down up = refl
 
-module _ (d : ℕ) (down up : List ℕ) {s : List ℕ} {c : Cursor} {n m : ℕ} {w w₁ : List ℕ} {x : Got} (one : d ≤ 1) (goes : c .why ≡ 0) (t : Told 1 w w₁ n m (rec 1 0 d 0 ∷ [])) (bit : Pulls s c 1 x) where
+module _ (d : ℕ) (down up : List ℕ) {s : List ℕ} {c : Cursor} {n m : ℕ} {w w₁ : List ℕ} {x : Got} (one : d ≤ 1) (goes : c .why ≡ 0) (t : Told 1 w w₁ n m (rec 1 0 d 0 (c .at) ∷ [])) (bit : Pulls s c 1 x) where
   behind-direction : {b : ℕ} {w₂ : List ℕ} {r : At} → Runs b (λ u p. read (ext (choice tag.pdu (alternatives d down up)) extensionAlternative) (0, 0) (bitOf s) u p) s c m w₁ w₂ r → Runs (1 + b) (pduAt d down up s) s c n w w₂ r
   unfolding pduAt
   behind-direction y =
@@ -76,6 +76,6 @@ module _ (d : ℕ) (down up : List ℕ) {s : List ℕ} {c : Cursor} {n m : ℕ} 
     pub pdu-stuck : (g .c .why ≡ 0 → ⊥) → Runs 1 (pduAt d down up s) s c n w w₁ (record { n = m; c = g .c })
     pdu-stuck h = behind-direction (runs-root (0, 0) (choice tag.pdu (alternatives d down up)) extensionAlternative x bit z (runs-no-index (0, 0) tag.pdu (alternatives d down up) g wide h))
 
-    pub pdu-read : {k a : ℕ} {w₂ w₃ : List ℕ} {r : At} → g .c .why ≡ 0 → Told 1 w₁ w₂ m k (rec 2 0 (g .v) 0 ∷ []) → Runs a (alternativeAt d (g .v) down up s) s (g .c) k w₂ w₃ r → Runs (1 + (1 + a)) (pduAt d down up s) s c n w w₃ r
+    pub pdu-read : {k a : ℕ} {w₂ w₃ : List ℕ} {r : At} → g .c .why ≡ 0 → Told 1 w₁ w₂ m k (rec 2 0 (g .v) 0 (x .c .at) ∷ []) → Runs a (alternativeAt d (g .v) down up s) s (g .c) k w₂ w₃ r → Runs (1 + (1 + a)) (pduAt d down up s) s c n w w₃ r
     unfolding alternativeAt
     pdu-read h u y = behind-direction (runs-root (0, 0) (choice tag.pdu (alternatives d down up)) extensionAlternative x bit z (runs-index (0, 0) tag.pdu (alternatives d down up) g wide h u y))

@@ -16,7 +16,7 @@ use Rattle.cursor.specs.declared.place.Got.{Got}
 use Rattle.length_determinants.specs.declared.Measured.{Measured}
 use Rattle.length_determinants.specs.Lengths.{Measures, Passes}
 use Rattle.cursor.specs.Place.{marked, stopped, Inside, Pulls, Opens, Reads}
-use Rattle.cursor.proofs.Laws.{reads-ok, marked-nil}
+use Rattle.cursor.proofs.Laws.{reads-ok, reads-here, marked-nil}
 use Rattle.length_determinants.proofs.LengthLaws.{reads-clear, reads-set, takes-skipped}
 use Rattle.cursor.proofs.FormatLaws.{allRead, takes-refuse, opened-inside, opened-bit, last-bit}
 use Rattle.records.specs.Told.{Told}
@@ -46,16 +46,16 @@ module _ (has : ℕ) {s : List ℕ} {c : Cursor} where
 ---------------------------------------------------------------- the message
 
 abbrev absent : ℕ → ℕ → Ans
-absent u p = ok p (rec 8 0 1 0 ∷ []) 0
+absent u p = ok p (rec 8 0 1 0 p ∷ []) 0
 
 module _ (has : ℕ) (table : List ℕ) {b : ℕ} {s : List ℕ} {c : Cursor} {n : ℕ} {w : List ℕ} where
   pub part-stuck : has ≡ 0 → (c .why ≡ 0 → ⊥) → Runs b (messagePart has table s) s c n w w (record { n = n; c = c })
   unfolding messagePart
   part-stuck z h = runs-clear absent (innerAt table s) has z (runs-within b absent (omega arith) (runs-stayed absent h))
 
-  pub part-absent : {m : ℕ} {w′ : List ℕ} → has ≡ 0 → c .why ≡ 0 → Told b w w′ n m (rec 8 0 1 0 ∷ []) → Runs b (messagePart has table s) s c n w w′ (record { n = m; c = c })
+  pub part-absent : {m : ℕ} {w′ : List ℕ} → has ≡ 0 → c .why ≡ 0 → Told b w w′ n m (rec 8 0 1 0 (c .at) ∷ []) → Runs b (messagePart has table s) s c n w w′ (record { n = m; c = c })
   unfolding messagePart
-  part-absent z h x = runs-clear absent (innerAt table s) has z (runs-told absent (reads-ok _ 0 (marked-nil c)) h x)
+  part-absent z h x = runs-clear absent (innerAt table s) has z (runs-told absent (reads-here (λ p. rec 8 0 1 0 p ∷ []) 0 (marked-nil c)) h x)
 
   pub part-there : {w′ : List ℕ} {r : At} → (has ≡ 0 → ⊥) → Runs b (innerAt table s) s c n w w′ r → Runs b (messagePart has table s) s c n w w′ r
   unfolding messagePart

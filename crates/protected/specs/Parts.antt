@@ -13,7 +13,7 @@ unfoldable pub algorithm : ℕ → List ℕ → ℕ → ℕ → Ans
 algorithm has s e p = fork has (ok p [] 0) (read (skipped 4) (0, 0) (bitOf s) e p)
 
 unfoldable pub messagePart : ℕ → List ℕ → List ℕ → ℕ → ℕ → Ans
-messagePart has table s e p = fork has (ok p (rec tag.empty 0 1 0 ∷ []) 0) (innerAt table s e p)
+messagePart has table s e p = fork has (ok p (rec tag.empty 0 1 0 p ∷ []) 0) (innerAt table s e p)
 
 unfoldable pub protected : List ℕ → List ℕ → ℕ → ℕ → Ans
 protected table s e p = read (protectedMessage table) (0, 0) (bitOf s) e p

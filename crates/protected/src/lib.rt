@@ -41,7 +41,7 @@ fn message_part(s: &[u8], words: &mut [u64], n: usize, c: Cursor, has: u64, tabl
         if c.why != 0 {
             return At { n: n, c: c };
         }
-        let m = emit(words, n, 8, 0, 1, 0);
+        let m = emit(words, n, 8, 0, 1, 0, c.at);
         return At { n: m, c: c };
     }
     read_inner(s, words, n, c, table)
