@@ -35,9 +35,9 @@ use Rattle.forward_names.specs.Names.{nameless, identifier, nameIn}
 
 ---------------------------------------------------------------- a text of at most eight characters
 
-pub one-pack : (t m : ℕ) (cs : List ℕ) → 1 ≤ length cs → length cs ≤ 8 → pack t m cs ≡ rec t m (octets 8 cs) (length cs) ∷ []
+pub one-pack : (t m q : ℕ) (cs : List ℕ) → 1 ≤ length cs → length cs ≤ 8 → pack t m q cs ≡ rec t m (octets 8 cs) (length cs) q ∷ []
 unfolding pack packs
-one-pack t m cs l h = let q : (length cs + 7) / 8 ≡ 1 = omega arith in rw q
+one-pack t m q cs l h = let k : (length cs + 7) / 8 ≡ 1 = omega arith in rw k
 
 ---------------------------------------------------------------- the first records
 
@@ -45,7 +45,7 @@ one-pack t m cs l h = let q : (length cs + 7) / 8 ≡ 1 = omega arith in rw q
 pub record Begins (down up s : List ℕ) (p : ℕ) (R : List Rec) : Type 0 where
   pub there : 4 ≤ length s * 8
   pub rest : List Rec
-  pub recs : R ≡ rec 1 0 1 0 ∷ rec 2 0 (uint (bitOf s) 1 3) 0 ∷ rest
+  pub recs : R ≡ rec 1 0 1 0 0 ∷ rec 2 0 (uint (bitOf s) 1 3) 0 1 ∷ rest
   pub body : uint (bitOf s) 1 3 ≡ 4 → read (forward down up) (0, 0) (bitOf s) (length s * 8) 4 ≡ ok p rest 0
 
 clean-read : (f : Fmt) (s : List ℕ) {p : ℕ} {R : List Rec} → readFrame f s ≡ accept false p 0 R → read f (0, 0) (bitOf s) (length s * 8) 0 ≡ ok p R 0
@@ -59,13 +59,13 @@ unfolding read readChoice width widthIn highest count
 begins down up s {p} {R} clean =
     let b = bitOf s in
     let e : ℕ = length s * 8 in
-    let x₁ = then-ok 0 (rec 1 0 1 0 ∷ []) 0 _ (clean-read (groundPdus down up) s clean) in
+    let x₁ = then-ok 0 (rec 1 0 1 0 0 ∷ []) 0 _ (clean-read (groundPdus down up) s clean) in
     let x₂ = pull-inv b e 0 1 _ (x₁ .2) in
     elim (fork-inv (uint b 0 1) _ _ (x₂ .1)) [
       | inl y ↦
           let x₃ = pull-inv b e 1 3 _ (y .1) in
-          let x₄ = then-ok 4 (rec 2 0 (uint b 1 3) 0 ∷ []) 0 _ (x₃ .1) in
-          record { there = x₃ .0; rest = x₄ .1; recs = x₁ .3 ∙ ap (λ (S : List Rec). rec 1 0 1 0 ∷ S) (x₄ .3); body = λ q. sym (ap (λ (i : ℕ). readChoice (alternatives 1 down up) i (0, 0) b e 4) q) ∙ x₄ .2 }
+          let x₄ = then-ok 4 (rec 2 0 (uint b 1 3) 0 1 ∷ []) 0 _ (x₃ .1) in
+          record { there = x₃ .0; rest = x₄ .1; recs = x₁ .3 ∙ ap (λ (S : List Rec). rec 1 0 1 0 0 ∷ S) (x₄ .3); body = λ q. sym (ap (λ (i : ℕ). readChoice (alternatives 1 down up) i (0, 0) b e 4) q) ∙ x₄ .2 }
       | inr y ↦ never-after 2 1 [] _ (y .2)
     ]
 
@@ -97,11 +97,11 @@ headed down up s {p} {R} l h =
 pub identified : (p at : ℕ) (v : Value (typeOf header)) (R : List Rec) → InRange (typeOf header) v
     → identifier p (tell header v (0, 0) at ++ R) ≡ record { number = 0; reach = p; lacked = 0; text = octets 8 (identifierOf v); size = length (identifierOf v) }
 unfolding identifier tell tellFields
-identified p at v R g = let cs : List ℕ = identifierOf v in let sized = g .1 .0 in rw (coded-nil cs, one-pack 19 0 cs (omega (arith, sized .0)) (sized .1))
+identified p at v R g = let cs : List ℕ = identifierOf v in let sized = g .1 .0 in rw (coded-nil cs, one-pack 19 0 _ cs (omega (arith, sized .0)) (sized .1))
 
 ---------------------------------------------------------------- the name
 
-of-forward : (p i : ℕ) (R S : List Rec) → R ≡ rec 1 0 1 0 ∷ rec 2 0 i 0 ∷ S → i ≡ 4 → nameIn p R ≡ identifier p S
+of-forward : (p i : ℕ) (R S : List Rec) → R ≡ rec 1 0 1 0 0 ∷ rec 2 0 i 0 1 ∷ S → i ≡ 4 → nameIn p R ≡ identifier p S
 unfolding nameIn
 of-forward p i R S e q = rw (e, q)
 
@@ -126,13 +126,13 @@ module _ (down up s : List ℕ) {p : ℕ} {R : List Rec} (clean : readFrame (gro
 ---------------------------------------------------------------- the words
 
 -- a row of characters whose records begin with this one has no other record
-lone-pack : (us : List ℕ) (y : ℕ) {v n : ℕ} {S : List Rec} → 1 ≤ n → n ≤ 8 → rec 19 0 v n ∷ S ≡ pack 19 0 us ++ (rec 20 0 y 24 ∷ []) → pack 19 0 us ≡ rec 19 0 v n ∷ []
+lone-pack : (us : List ℕ) (q y z : ℕ) {v n a : ℕ} {S : List Rec} → 1 ≤ n → n ≤ 8 → rec 19 0 v n a ∷ S ≡ pack 19 0 q us ++ (rec 20 0 y 24 z ∷ []) → pack 19 0 q us ≡ rec 19 0 v n q ∷ []
 unfolding pack packs
-lone-pack us y {v} {n} {S} l h q = go ((length us + 7) / 8) refl q
+lone-pack us q y z {v} {n} {a} {S} l h u = go ((length us + 7) / 8) refl u
   where
-    go : (k : ℕ) → (length us + 7) / 8 ≡ k → rec 19 0 v n ∷ S ≡ packs 19 0 (length us) k us ++ (rec 20 0 y 24 ∷ []) → packs 19 0 (length us) ((length us + 7) / 8) us ≡ rec 19 0 v n ∷ []
-    go zero z e = absurd (let x : _≡_ {A = ℕ} 19 20 = cc in omega arith)
-    go (suc k) z e = let x : n ≡ length us = cc in let o : octets 8 us ≡ v = cc in let i : (length us + 7) / 8 ≡ 1 = omega arith in rw (i, o, x)
+    go : (k : ℕ) → (length us + 7) / 8 ≡ k → rec 19 0 v n a ∷ S ≡ packs 19 0 q (length us) k us ++ (rec 20 0 y 24 z ∷ []) → packs 19 0 q (length us) ((length us + 7) / 8) us ≡ rec 19 0 v n q ∷ []
+    go zero g e = absurd (let x : _≡_ {A = ℕ} 19 20 = cc in omega arith)
+    go (suc k) g e = let x : n ≡ length us = cc in let o : octets 8 us ≡ v = cc in let i : (length us + 7) / 8 ≡ 1 = omega arith in rw (i, o, x)
 
 module _ (down up s : List ℕ) {p : ℕ} {R : List Rec} (clean : readFrame (groundPdus down up) s ≡ accept false p 0 R) {g : Got} (pulls : Pulls s (record { at = 1; end = length s * 8; why = 0; marks = 0 }) 3 g) where
   pulled : (g .v ≡ uint (bitOf s) 1 3) × (g .c ≡ record { at = 4; end = length s * 8; why = 0; marks = 0 })
@@ -164,17 +164,17 @@ module _ (down up s : List ℕ) {p : ℕ} {R : List Rec} (clean : readFrame (gro
         go (went q m z a l x) = let y = head .reads in cc
         go (failed w q m S n z a l x) = never (sym a ∙ head .reads)
 
-    name-record : textRecs 19 0 s (h .header .name) ≡ rec 19 0 (octets 8 chars) (length chars) ∷ []
+    name-record : textRecs 19 0 s (h .header .name) ≡ rec 19 0 (octets 8 chars) (length chars) (h .header .name .from) ∷ []
     unfolding textRecs tell tellFields head
     name-record =
         let sized = head .inRange .1 .0 in
         let x = same-header in
-        lone-pack _ _ (omega (arith, sized .0)) (sized .1) (ap (λ (l : List Rec). drop 6 l) (rw (coded-nil chars, one-pack 19 0 chars (omega (arith, sized .0)) (sized .1)) at x))
+        lone-pack _ _ _ _ (omega (arith, sized .0)) (sized .1) (ap (λ (l : List Rec). drop 6 l) (rw (coded-nil chars, one-pack 19 0 _ chars (omega (arith, sized .0)) (sized .1)) at x))
 
-    pub clean-named : {j m : ℕ} {w k : List ℕ} → length w ≡ 4 → Told j w k 0 m (textRecs 19 0 s (h .header .name)) → record { number = 0; reach = p; lacked = 0; text = getD k 2 0; size = getD k 3 0 } ≡ nameIn p R
+    pub clean-named : {j m : ℕ} {w k : List ℕ} → length w ≡ 5 → Told j w k 0 m (textRecs 19 0 s (h .header .name)) → record { number = 0; reach = p; lacked = 0; text = getD k 2 0; size = getD k 3 0 } ≡ nameIn p R
     unfolding flat need
     clean-named {k = k} l told =
-        let t : take 4 k ≡ 19 ∷ 0 ∷ octets 8 chars ∷ length chars ∷ [] = told-kept (rw name-record at told) (omega (arith, told .room)) in
-        let i : getD k 2 0 ≡ octets 8 chars = sym (getD-take 4 k 2 0 (omega arith)) ∙ rw t in
-        let n : getD k 3 0 ≡ length chars = sym (getD-take 4 k 3 0 (omega arith)) ∙ rw t in
+        let t : take 5 k ≡ 19 ∷ 0 ∷ octets 8 chars ∷ length chars ∷ h .header .name .from ∷ [] = told-kept (rw name-record at told) (omega (arith, told .room)) in
+        let i : getD k 2 0 ≡ octets 8 chars = sym (getD-take 5 k 2 0 (omega arith)) ∙ rw t in
+        let n : getD k 3 0 ≡ length chars = sym (getD-take 5 k 3 0 (omega arith)) ∙ rw t in
         rw (forward-message down up s clean index, i, n)

@@ -19,13 +19,13 @@ nameless n p = turned n p 0
 -- the identifier has 2 to 8 characters, so that one record holds it: the characters, and how many they are
 unfoldable pub identifier : ℕ → List Rec → Named
 identifier p [] = nameless 19 p
-identifier p (rec t m v n ∷ R) = cond (eqb t tag.aircraft-id) (record { number = 0; reach = p; lacked = 0; text = v; size = n }) (identifier p R)
+identifier p (rec t m v n q ∷ R) = cond (eqb t tag.aircraft-id) (record { number = 0; reach = p; lacked = 0; text = v; size = n }) (identifier p R)
 
 -- the records of an uplink begin with its direction and the index of its alternative: 4 is the forward message
 unfoldable pub nameIn : ℕ → List Rec → Named
 nameIn p [] = nameless 19 p
 nameIn p (r ∷ []) = nameless 19 p
-nameIn p (r ∷ rec t m v n ∷ R) = cond (eqb t tag.pdu && eqb v 4) (identifier p R) (nameless 19 p)
+nameIn p (r ∷ rec t m v n q ∷ R) = cond (eqb t tag.pdu && eqb v 4) (identifier p R) (nameless 19 p)
 
 -- only a clean reading names
 unfoldable pub nameOf : Reply → Named

@@ -41,7 +41,7 @@ pub fn forward_name(frame: &[u8], down: &[u8], up: &[u8]) -> Named
     if !tables_fit(down, up) {
         return no_name(2, 0, 0);
     }
-    let mut spare = [0u64; 4];
+    let mut spare = [0u64; 5];
     let v = try_frame(frame, &mut spare, 1, down, up);
     if v.why == 7 {
         return no_name(19, v.reach, 0);
@@ -86,7 +86,7 @@ fn clean_name(frame: &[u8], reach: usize) -> Named
     let h = read_header(frame, choice.c);
     let header = h.header;
     let name = header.name;
-    let mut words = [0u64; 4];
+    let mut words = [0u64; 5];
     tell_text(&mut words, 0, 19, 0, frame, name);
     Named {
         number: 0,
