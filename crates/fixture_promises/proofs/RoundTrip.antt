@@ -53,7 +53,7 @@ pub record ReadBack (k d : ℕ) (down up W s out : List ℕ) (n : ℕ) (out′ :
   -- these bytes are read by the format clean, with reach n
   pub recs : List Rec
   pub clean : readFrame format (bytesOf bits) ≡ accept false n 0 recs
-  -- the records read show what the list shows: the same records, and for a span the same bits
+  -- the records read show what the list shows: the same records, wherever their fields start now, and for a span the same bits
   pub same : look spanTag (bitOf (bytesOf bits)) recs ≡ look spanTag (bitOf s) (recordsOf W)
   pub within : inside spanTag (length (bytesOf bits) * 8) recs ≡ true
   -- they are a frame of a length that is read

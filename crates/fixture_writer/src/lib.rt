@@ -32,7 +32,7 @@ const RECORDS: usize = 4294967296;
 
 const BYTES: usize = 72057594037927936;
 
-// kind 0 is CPDLC, 1 Context Management, 2 association control; direction 0 is the aircraft's message, 1 the ground's. Each record of the list is five words; its spans point into the bits of `src`.
+// kind 0 is CPDLC, 1 Context Management, 2 association control; direction 0 is the aircraft's message, 1 the ground's. Each record of the list is five words, the fifth of which says nothing here; its spans point into the bits of `src`.
 pub fn write_message(
     kind: u64,
     direction: u64,
