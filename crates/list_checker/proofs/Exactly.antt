@@ -62,7 +62,7 @@ module _ (s : List ℕ) (e : Entry) (down up l : List ℕ) where
       let c = y .1 in
       (c .reach, length (c .recs), λ w r. tests-and-reading s e down up w ∙ decide-go (allTests s e down up) (readingOf e down up s) w (y .0) ∙ ap (λ (x : Reply). settle x w) (c .is) ∙ settled (c .reach) (c .recs) l w (c .list) r)
 
-  pub given-yes : {p k : ℕ} (w : List ℕ) {w′ : List ℕ} → entered e down up s w ≡ (accepted false p 0 k, w′) → l ≡ take (k * 4) w′ → check-list s e down up l ≡ Yes
+  pub given-yes : {p k : ℕ} (w : List ℕ) {w′ : List ℕ} → entered e down up s w ≡ (accepted false p 0 k, w′) → l ≡ take (k * 5) w′ → check-list s e down up l ≡ Yes
   given-yes w h q = sym (said-clean s e down up w l refl (sym h) λ R t. sym (rw (q ∙ t) (same-yes 1 R)))
 
   ---------------------------------------------------------------- as a message, for the entries of one format

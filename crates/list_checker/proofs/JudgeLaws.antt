@@ -88,7 +88,7 @@ module _ (s : List ℕ) (e : Entry) (down up lent : List ℕ) where
   fits (answer.Refused n p k j) x = tt
 
   -- no clean reading needs more words than these
-  pub enough : length lent ≡ 33296 → (a : Answer) {w : List ℕ} → Says a w (entered e down up s lent) → isFull a ≡ true → (p : ℕ) (R : List Rec) → reply ≡ accept false p 0 R → ⊥
+  pub enough : length lent ≡ 41620 → (a : Answer) {w : List ℕ} → Says a w (entered e down up s lent) → isFull a ≡ true → (p : ℕ) (R : List Rec) → reply ≡ accept false p 0 R → ⊥
   unfolding need
   enough l (answer.Accepted c q m k) x f p R h = let z : _≡_ {A = ℕ} 0 1 = cc in omega arith
   enough l (answer.Refused n q k j) {w} x f p R h =
@@ -97,7 +97,7 @@ module _ (s : List ℕ) (e : Entry) (down up lent : List ℕ) where
       let y : accept (full .cut) q (full .marks) (full .recs) ≡ accept false p 0 R = sym (full .replied) ∙ h in
       let same : full .recs ≡ R = cc in
       let few = reading-few s e down up p R h in
-      let long : 33296 < length R * 4 = rw (l, same) at (full .full) in
+      let long : 41620 < length R * 5 = rw (l, same) at (full .full) in
       omega arith
 
   module _ (l : List ℕ) where
@@ -113,13 +113,13 @@ module _ (s : List ℕ) (e : Entry) (down up lent : List ℕ) where
         let x = of-accepted h in
         sym (checked-go tests reply l (x .0) ∙ not-clean reply l (λ q R y. let z = sym (x .1 .replied) ∙ y in n (cc)))
 
-    pub said-clean : {p m k : ℕ} {w : List ℕ} {x : Checked} → m ≡ 0 → _≡_ {A = Outcome} (accepted false p m k, w) (entered e down up s lent) → ((R : List Rec) → take (k * 4) w ≡ flat R → x ≡ compared 1 R l) → x ≡ check-list s e down up l
+    pub said-clean : {p m k : ℕ} {w : List ℕ} {x : Checked} → m ≡ 0 → _≡_ {A = Outcome} (accepted false p m k, w) (entered e down up s lent) → ((R : List Rec) → take (k * 5) w ≡ flat R → x ≡ compared 1 R l) → x ≡ check-list s e down up l
     unfolding check-list held need
     said-clean {p} {m} {k} {w} z h f =
         let x = of-accepted h in
         let R = x .1 .recs in
-        let n : k * 4 ≡ length (flat R) = ap (λ (j : ℕ). j * 4) (x .1 .counted) ∙ sym (flat-need R) in
-        let t : take (k * 4) w ≡ flat R = ap (λ (v : List ℕ). take (k * 4) v) (x .1 .words) ∙ rw n (take-append-le (length (flat R)) (flat R) (drop (need R) lent) (omega arith) ∙ take-all (length (flat R)) (flat R) (omega arith)) in
+        let n : k * 5 ≡ length (flat R) = ap (λ (j : ℕ). j * 5) (x .1 .counted) ∙ sym (flat-need R) in
+        let t : take (k * 5) w ≡ flat R = ap (λ (v : List ℕ). take (k * 5) v) (x .1 .words) ∙ rw n (take-append-le (length (flat R)) (flat R) (drop (need R) lent) (omega arith) ∙ take-all (length (flat R)) (flat R) (omega arith)) in
         let q : reply ≡ accept false p 0 R = x .1 .replied ∙ ap (λ (j : ℕ). accept false p j R) z in
         f R t ∙ sym (checked-go tests reply l (x .0) ∙ rw q)
 
@@ -146,7 +146,7 @@ module _ {a : Answer} {w l : List ℕ} where
     pub judged-marked : c ≡ false → (m ≡ 0 → ⊥) → Judges a w l (Refused 19)
     judged-marked z n = record { judges = λ s e down up lent says full. said-marked s e down up lent l n (accepted-with accepts z says) }
 
-    pub judged-clean : {x : Checked} → c ≡ false → m ≡ 0 → ((R : List Rec) → take (k * 4) w ≡ flat R → x ≡ compared 1 R l) → Judges a w l x
+    pub judged-clean : {x : Checked} → c ≡ false → m ≡ 0 → ((R : List Rec) → take (k * 5) w ≡ flat R → x ≡ compared 1 R l) → Judges a w l x
     judged-clean z y f = record { judges = λ s e down up lent says full. said-clean s e down up lent l y (accepted-with accepts z says) f }
 
   module _ {n p k j : ℕ} (refuses : a ≡ answer.Refused n p k j) where

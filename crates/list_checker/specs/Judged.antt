@@ -22,7 +22,7 @@ isFull (Refused n p k j) = eqb n 7
 
 -- the records of an accepted reading are in the words
 abbrev pub Fits : Answer → List ℕ → Type 0
-Fits (Accepted c p m k) w = k * 4 ≤ length w
+Fits (Accepted c p m k) w = k * 5 ≤ length w
 Fits (Refused n p k j) w = Unit {0}
 
 -- whichever entry answered so: r is said of the list, if no clean reading was refused for want of room

@@ -11,9 +11,9 @@ use list_comparison::compare;
 pub mod entries; // entries.rt: the entries, and the call of one
 
 // The words that most messages need, and those that are enough for every clean one: 8,324 records.
-const FEW: usize = 192;
+const FEW: usize = 240;
 
-const ENOUGH: usize = 33_296;
+const ENOUGH: usize = 41_620;
 
 pub fn check_list(frame: &[u8], entry: Entry, down: &[u8], up: &[u8], list: &[u64]) -> Checked
     ensures { λ r. ⌜ r ≡ check-list (now (frame .entry)) entry (now (down .entry)) (now (up .entry)) (now (list .entry)) ⌝ }
