@@ -37,6 +37,6 @@ module _ (N w : List ℕ) (s : Walk) {s′ : Walk} {x : Record} where
   walked-on i h ex es = rw (from-here w i h, es, ex, add-one)
 
   -- the end
-  pub walked-all : (n : ℕ) → n ≡ count w → walked N start (recordsFrom 0 w) ≡ walked N s (recordsFrom n w) → x ≡ fetched (recordAt w n) → s′ ≡ stepped N s x → stepped N (walked N start (recordsFrom 0 w)) (fetched (rec 0 0 0 0)) ≡ s′
+  pub walked-all : (n : ℕ) → n ≡ count w → walked N start (recordsFrom 0 w) ≡ walked N s (recordsFrom n w) → x ≡ fetched (recordAt w n) → s′ ≡ stepped N s x → stepped N (walked N start (recordsFrom 0 w)) (fetched (rec 0 0 0 0 0)) ≡ s′
   unfolding walked
   walked-all n e q ex es = let l : count w ≤ n = omega arith in rw (q, from-end w n l, es, ex, record-past w n l)

@@ -19,7 +19,7 @@ walked N s (x ∷ R) = walked N (stepped N s (fetched x)) R
 
 -- the end is heard as a record of zeros, and behind it is row 3
 unfoldable pub heard : List ℕ → List Rec → Bool
-heard N R = eqb (stepped N (walked N start R) (fetched (rec 0 0 0 0)) .at) 3
+heard N R = eqb (stepped N (walked N start R) (fetched (rec 0 0 0 0 0)) .at) 3
 
 unfoldable pub formed : List ℕ → Bool
 formed w = whole w && heard table (recordsFrom 0 w)

@@ -22,46 +22,46 @@ a-record = omega arith
 
 -- the record whose words stand from a place on
 abbrev pub wordsFrom : List ℕ → ℕ → Rec
-wordsFrom w at = rec (getD w at 0) (getD w (at + 1) 0) (getD w (at + 2) 0) (getD w (at + 3) 0)
+wordsFrom w at = rec (getD w at 0) (getD w (at + 1) 0) (getD w (at + 2) 0) (getD w (at + 3) 0) (getD w (at + 4) 0)
 
 so-many : (w : List ℕ) (i k : ℕ) → length (message.recordsFrom w i k) ≡ k
 unfolding message.recordsFrom
 so-many w i zero = refl
 so-many w i (suc k) = ap suc (so-many w (suc i) k)
 
-this-one : (w : List ℕ) (i k j : ℕ) → j < k → getD (message.recordsFrom w i k) j (rec 0 0 0 0) ≡ wordsFrom w ((i + j) * 4)
+this-one : (w : List ℕ) (i k j : ℕ) → j < k → getD (message.recordsFrom w i k) j (rec 0 0 0 0 0) ≡ wordsFrom w ((i + j) * 5)
 unfolding message.recordsFrom
-this-one w i (suc k) zero h = let e : i ≡ i + 0 = omega arith in ap (λ (n : ℕ). wordsFrom w (n * 4)) e
-this-one w i (suc k) (suc j) h = let e : suc i + j ≡ i + suc j = omega arith in this-one w (suc i) k j (omega arith) ∙ ap (λ (n : ℕ). wordsFrom w (n * 4)) e
+this-one w i (suc k) zero h = let e : i ≡ i + 0 = omega arith in ap (λ (n : ℕ). wordsFrom w (n * 5)) e
+this-one w i (suc k) (suc j) h = let e : suc i + j ≡ i + suc j = omega arith in this-one w (suc i) k j (omega arith) ∙ ap (λ (n : ℕ). wordsFrom w (n * 5)) e
 
 -- as many as there is room for
 pub counted : (w : List ℕ) → count w ≡ length w / size
 unfolding count recordsOf size need
-counted w = so-many w 0 (length w / 4)
+counted w = so-many w 0 (length w / 5)
 
 -- a record's words stand within those that are lent
-pub stands : (w : List ℕ) (i : ℕ) → i < count w → i * space 1 + 3 < length w
+pub stands : (w : List ℕ) (i : ℕ) → i < count w → i * space 1 + 4 < length w
 unfolding space size need
 stands w i h = omega (arith, rw (counted w) at h)
 
 pub record-there : (w : List ℕ) (i : ℕ) → i < count w → recordAt w i ≡ wordsFrom w (i * space 1)
 unfolding recordAt recordsOf space size need
-record-there w i h = let e : 0 + i ≡ i = omega arith in this-one w 0 (length w / 4) i (rw (counted w) at h) ∙ ap (λ (n : ℕ). wordsFrom w (n * 4)) e
+record-there w i h = let e : 0 + i ≡ i = omega arith in this-one w 0 (length w / 5) i (rw (counted w) at h) ∙ ap (λ (n : ℕ). wordsFrom w (n * 5)) e
 
-pub record-past : (w : List ℕ) (i : ℕ) → count w ≤ i → recordAt w i ≡ rec 0 0 0 0
+pub record-past : (w : List ℕ) (i : ℕ) → count w ≤ i → recordAt w i ≡ rec 0 0 0 0 0
 unfolding recordAt count
-record-past w i h = List·getD-eq-default (recordsOf w) (rec 0 0 0 0) h
+record-past w i h = List·getD-eq-default (recordsOf w) (rec 0 0 0 0 0) h
 
 -- one record, and the others
 pub from-here : (w : List ℕ) (i : ℕ) → i < count w → recordsFrom i w ≡ recordAt w i ∷ recordsFrom (suc i) w
 unfolding recordsFrom recordAt count
-from-here w i h = drop-cons (recordsOf w) i (rec 0 0 0 0) h
+from-here w i h = drop-cons (recordsOf w) i (rec 0 0 0 0 0) h
 
 pub from-end : (w : List ℕ) (i : ℕ) → count w ≤ i → recordsFrom i w ≡ []
 unfolding recordsFrom count
 from-end w i h = drop-of-length-le (recordsOf w) h
 
 -- record k of those from i on
-pub nth : (w : List ℕ) (i k : ℕ) → getD (recordsFrom i w) k (rec 0 0 0 0) ≡ recordAt w (i + k)
+pub nth : (w : List ℕ) (i k : ℕ) → getD (recordsFrom i w) k (rec 0 0 0 0 0) ≡ recordAt w (i + k)
 unfolding recordsFrom recordAt
-nth w i k = getD-drop i (recordsOf w) k (rec 0 0 0 0)
+nth w i k = getD-drop i (recordsOf w) k (rec 0 0 0 0 0)

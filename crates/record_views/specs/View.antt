@@ -18,12 +18,12 @@ whole w = eqb (length w % size) 0
 
 -- record i; zeros where there is none
 unfoldable pub recordAt : List ℕ → ℕ → Rec
-recordAt w i = getD (recordsOf w) i (rec 0 0 0 0)
+recordAt w i = getD (recordsOf w) i (rec 0 0 0 0 0)
 
 -- the records from i on
 unfoldable pub recordsFrom : ℕ → List ℕ → List Rec
 recordsFrom i w = drop i (recordsOf w)
 
--- a record as the code has it
+-- a record as the code has it: where its field began is left out
 abbrev pub fetched : Rec → Record
-fetched (rec t m v s) = record { tag = t; element = m; value = v; second = s }
+fetched (rec t m v s q) = record { tag = t; element = m; value = v; second = s }

@@ -46,8 +46,8 @@ pub fn record_at(words: &[u64], i: usize) -> Record
 
 // The record whose words stand from `at` on.
 fn record_from(words: &[u64], at: usize) -> Record
-    requires { ⌜ at + 3 < length (now words) ⌝ }
-    ensures { λ r. ⌜ r ≡ fetched (rec (getD (now (words .entry)) at 0) (getD (now (words .entry)) (at + 1) 0) (getD (now (words .entry)) (at + 2) 0) (getD (now (words .entry)) (at + 3) 0)) ⌝ }
+    requires { ⌜ at + 4 < length (now words) ⌝ }
+    ensures { λ r. ⌜ r ≡ fetched (rec (getD (now (words .entry)) at 0) (getD (now (words .entry)) (at + 1) 0) (getD (now (words .entry)) (at + 2) 0) (getD (now (words .entry)) (at + 3) 0) (getD (now (words .entry)) (at + 4) 0)) ⌝ }
 {
     let tag = words[at];
     let element = words[at + 1];
