@@ -1,7 +1,7 @@
 -- Records in words: where they stand, one after another, and the end.
 use mathlib.Core.List.{List, [], _∷_}
 use mathlib.Core.Path.{_≡_, refl, ap, _∙_}
-use Prim.Native.Nat.{ℕ, zero, suc, _+_, _*_, _/_, _<_, _≤_}
+use Prim.Native.Nat.{ℕ, zero, suc, _+_, _*_, _/_, _^_, _<_, _≤_}
 use native.Mathlib.Omega.{arith}
 use lib.ListN.{length, getD, drop, drop-of-length-le, List·getD-eq-default}
 use lib.Seq.{drop-cons, getD-drop}
@@ -65,3 +65,8 @@ from-end w i h = drop-of-length-le (recordsOf w) h
 pub nth : (w : List ℕ) (i k : ℕ) → getD (recordsFrom i w) k (rec 0 0 0 0 0) ≡ recordAt w (i + k)
 unfolding recordsFrom recordAt
 nth w i k = getD-drop i (recordsOf w) k (rec 0 0 0 0 0)
+
+-- a place below the number of records is far below the largest
+pub far-below : (w : List ℕ) (i : ℕ) → i < count w → length w < 2 ^ 64 → i < 2 ^ 62
+unfolding size need
+far-below w i h l = omega (arith, rw (counted w) at h)
