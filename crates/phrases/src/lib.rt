@@ -1,0 +1,1 @@
+// Phrases: the lines of a lent table, and brackets.

@@ -1,0 +1,1 @@
+// Records in lent words, and the texts that they hold.
