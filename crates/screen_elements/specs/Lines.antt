@@ -15,23 +15,23 @@ unfoldable pub argument : ℕ → List Rec → List ℕ
 argument kind R =
     getD
     ([]
-     ∷ position R
-     ∷ speed R
-     ∷ enumeration speedTypes R
-     ∷ enumeration speedTypes R
-     ∷ level R
-     ∷ degrees R
-     ∷ frequency R
-     ∷ code R
-     ∷ enumeration trafficTypes R
-     ∷ enumeration clearanceTypes R
-     ∷ enumeration errorInformation R
-     ∷ enumeration facilityFunctions R
-     ∷ procedure R
-     ∷ runway R
-     ∷ coordinates R
-     ∷ departure R
-     ∷ [])
+    ∷ position R
+    ∷ speed R
+    ∷ enumeration speedTypes R
+    ∷ enumeration speedTypes R
+    ∷ level R
+    ∷ degrees R
+    ∷ frequency R
+    ∷ code R
+    ∷ enumeration trafficTypes R
+    ∷ enumeration clearanceTypes R
+    ∷ enumeration errorInformation R
+    ∷ enumeration facilityFunctions R
+    ∷ procedure R
+    ∷ runway R
+    ∷ coordinates R
+    ∷ departure R
+    ∷ [])
     kind []
 
 -- how many values fill brackets: byte 4 has three, of one record each

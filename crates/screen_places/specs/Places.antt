@@ -21,8 +21,8 @@ unfoldable pub angle : List ℕ → List Rec → List ℕ
 angle sides R =
     getD
     ((thousandths (value R 1) ++ degreeSign ++ lineOf sides (value R 2))
-     ∷ (decimal (value R 1) ++ degreeSign ++ hundredths (value R 2) ++ bytes "'" ++ lineOf sides (value R 3))
-     ∷ [])
+    ∷ (decimal (value R 1) ++ degreeSign ++ hundredths (value R 2) ++ bytes "'" ++ lineOf sides (value R 3))
+    ∷ [])
     (value R 0)
     (decimal (value R 1) ++ degreeSign ++ decimal (value R 2) ++ bytes "'" ++ decimal (value R 3) ++ bytes "\"" ++ lineOf sides (value R 4))
 
