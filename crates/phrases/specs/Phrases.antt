@@ -17,8 +17,12 @@ phraseOf t zero = cond (eqb (length t) 0) none (some (take (place 10 t) t))
 phraseOf t (suc i) = phraseOf (drop (place 10 t + 1) t) i
 
 -- line i, and nothing where there is none
+unfoldable pub orNothing : Option (List ℕ) → List ℕ
+orNothing none = []
+orNothing (some l) = l
+
 unfoldable pub lineOf : List ℕ → ℕ → List ℕ
-lineOf t i = elim (phraseOf t i) [ none ↦ [] | some l ↦ l ]
+lineOf t i = orNothing (phraseOf t i)
 
 -- where the first bracket `[` (91) is closed, by the next `]` (93) behind it; the length where there is none
 unfoldable pub close : List ℕ → ℕ
