@@ -10,11 +10,9 @@ use Rattle.phrases.proofs.phrase_of.Statement.{statement}
 use Rattle.phrases.proofs.phrase_of.Tie as tie
 
 abbrev Inv-loop : tie.InvT-loop
-
 Inv-loop table index from₀ left₀ from left = (from ≤ length table) × (phraseOf table index ≡ phraseOf (drop from table) left)
 
 abbrev μ-loop : tie.MeasureT-loop
-
 μ-loop table index from₀ left₀ from left = length table - from
 
 loop-holds : tie.Need-loop-holds Inv-loop μ-loop

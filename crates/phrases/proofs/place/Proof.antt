@@ -11,6 +11,7 @@ use Rattle.phrases.proofs.place.Tie as tie
 
 abbrev Inv-loop : tie.InvT-loop
 Inv-loop text c i₀ i = (i ≤ length text) × (place c text ≡ i + place c (drop i text))
+
 abbrev μ-loop : tie.MeasureT-loop
 μ-loop text c i₀ i = length text - i
 

@@ -1,0 +1,13 @@
+use borrow.Author.Needs.{needs}
+use mathlib.Core.Path.{_∙_}
+use Rattle.screen_records.specs.Fields.{value}
+use Rattle.screen_records.proofs.FieldLaws.{field-further}
+use Rattle.screen_records.proofs.value_at.Statement.{statement}
+use Rattle.screen_records.proofs.value_at.Tie as tie
+
+returns : tie.Need-returns
+unfolding value
+returns c = (c .word .ensures) ∙ field-further _ _ _ _
+
+pub value-at-spec : {M : Type 1} → statement M
+value-at-spec = tie.close (tie.spec (λ c. search needs) (λ c κs. search needs) returns)
