@@ -13,8 +13,9 @@ use borrow.Author.Tests.{eq-eqb, ne-eqb}
 use Rattle.screen_bytes.specs.Put.{Put}
 use Rattle.screen_bytes.proofs.Putting.{put-within}
 use Rattle.phrases.specs.declared.Phrase.{Phrase}
-use Rattle.phrases.specs.Phrases.{place, phraseOf, orNothing, lineOf}
-use Rattle.phrases.specs.Found.{Placed, Found}
+use Rattle.phrases.specs.declared.Bracket.{Bracket}
+use Rattle.phrases.specs.Phrases.{place, phraseOf, orNothing, lineOf, close}
+use Rattle.phrases.specs.Found.{Placed, Found, Bracketed}
 
 -- the byte is not among the first i
 module _ (c : ℕ) (text : List ℕ) (i : ℕ) (e : place c text ≡ i + place c (drop i text)) where
@@ -75,7 +76,7 @@ is-none f h = rw (f .is, h)
 pub tail : (text : List ℕ) (from : ℕ) → take (length text - from) (drop from text) ≡ drop from text
 tail text from = take-all (length text - from) (drop from text) (omega (arith, length-drop from text))
 
-pub tail-placed : (text : List ℕ) (from : ℕ) {c r : ℕ} → from < length text → Placed c (take (length text - from) (drop from text)) r → Placed c (drop from text) r
+pub tail-placed : (text : List ℕ) (from : ℕ) {c r : ℕ} → from ≤ length text → Placed c (take (length text - from) (drop from text)) r → Placed c (drop from text) r
 tail-placed text from h p = rw (tail text from) at p
 
 -- the line is put
@@ -85,3 +86,15 @@ put-found {table = table} {p = p} f h q =
     let e : (p .from + p .len) - p .from ≡ p .len = omega arith in
     let l = length-take (p .len) (drop (p .from) table) in
     rw (is-line f h) (put-within (length table) (omega (arith, l, length-drop (p .from) table)) (rw e at q))
+
+-- the bracket that opens first, and where it closes
+pub brackets : (phrase : List ℕ) {i j : ℕ} → Placed 91 phrase i → Placed 93 (take (length phrase - i) (drop i phrase)) j → Bracketed phrase (record { opens = i; closes = i + j })
+unfolding close
+brackets phrase {i} {j} p q =
+    let t : Placed 93 (drop i phrase) j = tail-placed phrase i (p .within) q in
+    record {
+      open-is = p .is;
+      close-is = rw (← p .is) (ap (λ (k : ℕ). i + k) (t .is));
+      order = omega arith;
+      within = omega (arith, p .within, t .within, length-drop i phrase);
+    }

@@ -5,7 +5,7 @@ ghost use Prim.Native.Nat.{_^_, _<_};
 ghost use lib.ListN.{length};
 ghost use Rattle.screen_bytes.specs.Put.{Put};
 ghost use Rattle.phrases.specs.Phrases.{lineOf};
-ghost use Rattle.phrases.specs.Found.{Placed, Found};
+ghost use Rattle.phrases.specs.Found.{Placed, Found, Bracketed};
 use screen_bytes::put_text;
 
 // A line of a table: whether there is one, its first byte and its length.
@@ -13,6 +13,12 @@ pub struct Phrase {
     pub has: bool,
     pub from: usize,
     pub len: usize,
+}
+
+// The first bracket of a phrase: where it opens and where it closes; where it does not, the phrase's length.
+pub struct Bracket {
+    pub opens: usize,
+    pub closes: usize,
 }
 
 // The place of the first c in a text, and the text's length where there is none.
@@ -76,4 +82,15 @@ pub fn put_line(out: &mut [u8], at: usize, table: &[u8], index: u64) -> usize
     let from = p.from;
     let end = from + p.len;
     put_text(out, at, &table[from..end])
+}
+
+pub fn first_bracket(phrase: &[u8]) -> Bracket
+    ensures { λ r. ⌜ Bracketed (now (phrase .entry)) r ⌝ }
+{
+    let opens = place(phrase, b'[');
+    let closes = opens + place(&phrase[opens..], b']');
+    Bracket {
+        opens: opens,
+        closes: closes,
+    }
 }

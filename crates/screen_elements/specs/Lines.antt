@@ -8,7 +8,8 @@ use Rattle.atn.specs.Reading.{Rec}
 use Rattle.phrases.specs.Phrases.{fill}
 use Rattle.screen_values.specs.Words.{speedTypes, trafficTypes, clearanceTypes, errorInformation, facilityFunctions}
 use Rattle.screen_values.specs.Values.{enumeration, level, speed, degrees, frequency, code, procedure, runway}
-use Rattle.screen_places.specs.Places.{coordinates, position, departure}
+use Rattle.screen_coordinates.specs.Coordinates.{coordinates}
+use Rattle.screen_positions.specs.Positions.{position, departure}
 
 -- the text of a value by the byte that document 01 has for the argument's type: 0 is none
 unfoldable pub argument : ℕ → List Rec → List ℕ

@@ -19,16 +19,16 @@ loop-holds : tie.Need-loop-holds Inv-loop μ-loop
 loop-holds c = (search needs, refl)
 
 returns : tie.Need-returns Inv-loop μ-loop
-returns c = is-here _ _ _ _ _ (c .before .before .before .before .loop .inv .1) (c .before .before .before .loop-test .taken) (c .if1 .taken) (tail-placed _ _ (c .before .before .before .loop-test .taken) (c .before .place .ensures))
+returns c = is-here _ _ _ _ _ (c .before .before .before .before .loop .inv .1) (c .before .before .before .loop-test .taken) (c .if1 .taken) (tail-placed _ _ (c .before .before .before .before .loop .inv .0) (c .before .place .ensures))
 
 add-end : tie.Need-add-end Inv-loop μ-loop
-add-end c = omega (arith, tail-placed (c .before .before .before .before .before .before .args .table .now) (c .before .before .before .before .loop .from) (c .before .before .before .loop-test .taken) (c .before .place .ensures) .within)
+add-end c = omega (arith, tail-placed (c .before .before .before .before .before .before .args .table .now) (c .before .before .before .before .loop .from) (c .before .before .before .before .loop .inv .0) (c .before .place .ensures) .within)
 
 returns-2 : tie.Need-returns-2 Inv-loop μ-loop
-returns-2 c = rw (c .no-phrase .ensures) (no-phrase _ _ (was-last _ _ _ _ _ (c .before .before .before .before .before .before .loop .inv .1) (c .before .before .if1 .left) (tail-placed _ _ (c .before .before .before .before .before .loop-test .taken) (c .before .before .before .place .ensures)) (c .before .if2 .taken)))
+returns-2 c = rw (c .no-phrase .ensures) (no-phrase _ _ (was-last _ _ _ _ _ (c .before .before .before .before .before .before .loop .inv .1) (c .before .before .if1 .left) (tail-placed _ _ (c .before .before .before .before .before .before .loop .inv .0) (c .before .before .before .place .ensures)) (c .before .if2 .taken)))
 
 loop-again : tie.Need-loop-again Inv-loop μ-loop
-loop-again c = (omega arith, passed _ _ _ _ _ (c .before .before .before .before .before .loop .inv .1) (c .before .if1 .left) (tail-placed _ _ (c .before .before .before .before .loop-test .taken) (c .before .before .place .ensures)))
+loop-again c = (omega arith, passed _ _ _ _ _ (c .before .before .before .before .before .loop .inv .1) (c .before .if1 .left) (tail-placed _ _ (c .before .before .before .before .before .loop .inv .0) (c .before .before .place .ensures)))
 
 returns-3 : tie.Need-returns-3 Inv-loop μ-loop
 returns-3 c = rw (c .no-phrase2 .ensures) (no-phrase _ _ (past-end _ _ _ _ 0 (c .before .before .loop .inv .1) (c .before .loop-test .left)))

@@ -5,7 +5,7 @@ use Rattle.screen_bytes.proofs.Putting.{put-then, put-within, put-length}
 use Prim.Native.Nat.{_≤_}
 use Rattle.screen_records.proofs.FieldLaws.{from-more}
 use Rattle.screen_values.specs.Values.{frequency}
-use Rattle.screen_values.proofs.ValueLaws.{otherwise}
+use lib.ListN.{List·getD-eq-default}
 use Rattle.screen_values.proofs.put_frequency.Statement.{statement}
 use Rattle.screen_values.proofs.put_frequency.Tie as tie
 
@@ -32,7 +32,7 @@ same-length-3 c = put-length (returns-3 c)
 
 returns-4 : tie.Need-returns-4
 unfolding frequency bytes
-returns-4 c = let h : 3 ≤ (c .before .before .before .before .before .before .before .before .before .before .before .value-at .result) = omega (arith, (c .before .before .before .before .before .before .before .before .before .match .rest .1), (c .before .before .before .before .before .before .before .before .before .match .rest .0 .1), (c .before .before .before .before .before .before .before .before .before .match .rest .0 .0 .1)) in rw (← (c .before .before .before .before .before .before .before .before .before .before .before .value-at .ensures), ← (c .before .before .before .before .before .before .before .before .before .before .value-at2 .ensures), otherwise) (put-within 36 (omega arith) (put-then (c .before .before .before .before .before .before .put-text4 .ensures) (rw from-more at (c .before .before .put-record-text .ensures))))
+returns-4 c = let h : 3 ≤ (c .before .before .before .before .before .before .before .before .before .before .before .value-at .result) = omega (arith, (c .before .before .before .before .before .before .before .before .before .match .rest .1), (c .before .before .before .before .before .before .before .before .before .match .rest .0 .1), (c .before .before .before .before .before .before .before .before .before .match .rest .0 .0 .1)) in rw (← (c .before .before .before .before .before .before .before .before .before .before .before .value-at .ensures), ← (c .before .before .before .before .before .before .before .before .before .before .value-at2 .ensures), List·getD-eq-default) (put-within 36 (omega arith) (put-then (c .before .before .before .before .before .before .put-text4 .ensures) (rw from-more at (c .before .before .put-record-text .ensures))))
 
 same-length-4 : tie.Need-same-length-4
 same-length-4 c = put-length (returns-4 c)

@@ -4,7 +4,7 @@ use Rattle.screen_bytes.specs.Text.{bytes, degreeSign}
 use Rattle.screen_bytes.proofs.Putting.{put-then, put-within, put-length}
 use Prim.Native.Nat.{_≤_}
 use Rattle.screen_values.specs.Values.{level}
-use Rattle.screen_values.proofs.ValueLaws.{otherwise}
+use lib.ListN.{List·getD-eq-default}
 use Rattle.screen_values.proofs.put_level.Statement.{statement}
 use Rattle.screen_values.proofs.put_level.Tie as tie
 
@@ -31,7 +31,7 @@ same-length-3 c = put-length (returns-3 c)
 
 returns-4 : tie.Need-returns-4
 unfolding level bytes
-returns-4 c = let h : 3 ≤ (c .before .before .before .before .before .before .before .before .before .before .before .value-at .result) = omega (arith, (c .before .before .before .before .before .before .before .before .before .match .rest .1), (c .before .before .before .before .before .before .before .before .before .match .rest .0 .1), (c .before .before .before .before .before .before .before .before .before .match .rest .0 .0 .1)) in rw (← (c .before .before .before .before .before .before .before .before .before .before .before .value-at .ensures), ← (c .before .before .before .before .before .before .before .before .before .before .value-at2 .ensures), otherwise) (put-within 24 (omega arith) (put-then (c .before .before .before .before .before .before .before .put-signed4 .ensures) (c .before .before .put-text4 .ensures)))
+returns-4 c = let h : 3 ≤ (c .before .before .before .before .before .before .before .before .before .before .before .value-at .result) = omega (arith, (c .before .before .before .before .before .before .before .before .before .match .rest .1), (c .before .before .before .before .before .before .before .before .before .match .rest .0 .1), (c .before .before .before .before .before .before .before .before .before .match .rest .0 .0 .1)) in rw (← (c .before .before .before .before .before .before .before .before .before .before .before .value-at .ensures), ← (c .before .before .before .before .before .before .before .before .before .before .value-at2 .ensures), List·getD-eq-default) (put-within 24 (omega arith) (put-then (c .before .before .before .before .before .before .before .put-signed4 .ensures) (c .before .before .put-text4 .ensures)))
 
 same-length-4 : tie.Need-same-length-4
 same-length-4 c = put-length (returns-4 c)
