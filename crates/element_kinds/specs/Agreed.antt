@@ -4,12 +4,14 @@ use mathlib.Core.List.{List, [], _∷_}
 use Prim.Native.Nat.{ℕ}
 use lib.Dec.{eqb}
 use Rattle.atn.specs.Reading.{Rec}
-use Rattle.atn.specs.Tags as tag
-use Rattle.element_kinds.specs.Kinds.{tagOf, valueOf, tagAt, kindOf}
+use Rattle.atn.specs.Tags as tags
+use Rattle.record_views.specs.View.{fetched}
+use Rattle.screen_records.specs.Fields.{tag}
+use Rattle.element_kinds.specs.Kinds.{kindOf}
 
 -- nothing follows of which a failed argument would have been the end, by the tag that follows
 unfoldable pub isLast : ℕ → Bool
-isLast t = cond (eqb t tag.element-index) false (cond (eqb t tag.clearance) false true)
+isLast t = cond (eqb t tags.element-index) false (cond (eqb t tags.clearance) false true)
 
 -- an argument of kind k where the index had one of kind `kind`: the same, or none at the end
 unfoldable pub kindAgrees : ℕ → ℕ → ℕ → Bool
@@ -17,7 +19,7 @@ kindAgrees kind k t = cond (eqb k kind) true (cond (eqb k 0) (isLast t) false)
 
 -- a record, and those behind it: if it begins an element of this index
 unfoldable pub oneAgrees : ℕ → ℕ → Rec → List Rec → Bool
-oneAgrees index kind x R = cond (eqb (tagOf x) tag.element-index) (cond (eqb (valueOf x) index) (kindAgrees kind (kindOf R) (tagAt R 0)) true) true
+oneAgrees index kind x R = cond (eqb (fetched x .tag) tags.element-index) (cond (eqb (fetched x .value) index) (kindAgrees kind (kindOf R) (tag R 0)) true) true
 
 unfoldable pub laterAgree : ℕ → ℕ → List Rec → Bool
 laterAgree index kind [] = true
@@ -25,7 +27,7 @@ laterAgree index kind (x ∷ R) = oneAgrees index kind x R && laterAgree index k
 
 -- an element, with all that follow
 unfoldable pub elementAgrees : Rec → List Rec → Bool
-elementAgrees x R = cond (eqb (tagOf x) tag.element-index) (laterAgree (valueOf x) (kindOf R) R) true
+elementAgrees x R = cond (eqb (fetched x .tag) tags.element-index) (laterAgree (fetched x .value) (kindOf R) R) true
 
 unfoldable pub agreed : List Rec → Bool
 agreed [] = true

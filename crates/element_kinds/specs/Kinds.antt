@@ -3,55 +3,45 @@ use mathlib.Core.Bool.{cond}
 use mathlib.Core.List.{List}
 use Prim.Native.Nat.{ℕ}
 use lib.Dec.{eqb}
-use lib.ListN.{getD}
-use Rattle.atn.specs.Reading.{Rec, rec}
-use Rattle.atn.specs.Tags as tag
-
-unfoldable pub tagOf : Rec → ℕ
-tagOf (rec t m v s q) = t
-
-unfoldable pub valueOf : Rec → ℕ
-valueOf (rec t m v s q) = v
-
--- the tag of record i, 0 where there is none
-unfoldable pub tagAt : List Rec → ℕ → ℕ
-tagAt R i = tagOf (getD R i (rec 0 0 0 0 0))
+use Rattle.atn.specs.Reading.{Rec}
+use Rattle.atn.specs.Tags as tags
+use Rattle.screen_records.specs.Fields.{tag}
 
 -- by the first two tags: three speed types follow one another, or there is one
 unfoldable pub kindBy : ℕ → ℕ → ℕ
 kindBy t u =
-    cond (eqb t tag.position)
+    cond (eqb t tags.position)
     1
-    (cond (eqb t tag.speed)
+    (cond (eqb t tags.speed)
     2
-    (cond (eqb t tag.speed-type)
-    (cond (eqb u tag.speed-type) 4 3)
-    (cond (eqb t tag.level)
+    (cond (eqb t tags.speed-type)
+    (cond (eqb u tags.speed-type) 4 3)
+    (cond (eqb t tags.level)
     5
-    (cond (eqb t tag.degrees)
+    (cond (eqb t tags.degrees)
     6
-    (cond (eqb t tag.frequency)
+    (cond (eqb t tags.frequency)
     7
-    (cond (eqb t tag.code-digit)
+    (cond (eqb t tags.code-digit)
     8
-    (cond (eqb t tag.traffic-type)
+    (cond (eqb t tags.traffic-type)
     9
-    (cond (eqb t tag.clearance-type)
+    (cond (eqb t tags.clearance-type)
     10
-    (cond (eqb t tag.error-information)
+    (cond (eqb t tags.error-information)
     11
-    (cond (eqb t tag.facility-function)
+    (cond (eqb t tags.facility-function)
     12
-    (cond (eqb t tag.procedure)
+    (cond (eqb t tags.procedure)
     13
-    (cond (eqb t tag.runway)
+    (cond (eqb t tags.runway)
     14
-    (cond (eqb t tag.coordinates)
+    (cond (eqb t tags.coordinates)
     15
-    (cond (eqb t tag.flight-identification)
+    (cond (eqb t tags.flight-identification)
     16
     0))))))))))))))
 
 -- the records R stand behind an element's index
 unfoldable pub kindOf : List Rec → ℕ
-kindOf R = kindBy (tagAt R 0) (tagAt R 1)
+kindOf R = kindBy (tag R 0) (tag R 1)

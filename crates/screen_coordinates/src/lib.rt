@@ -3,7 +3,7 @@ ghost use mathlib.Core.Path.{_≡_};
 ghost use Prim.Native.Nat.{_+_, _^_, _≤_, _<_};
 ghost use lib.ListN.{length};
 ghost use Rattle.screen_bytes.specs.Put.{Put};
-ghost use Rattle.screen_records.specs.Fields.{recordsFrom};
+ghost use Rattle.record_views.specs.View.{recordsFrom};
 ghost use Rattle.screen_coordinates.specs.Coordinates.{angle, angleRecords, longitudeAt, latitude, longitude, between, coordinates, coordinatesRecords};
 use phrases::put_line;
 use screen_bytes::put_byte;

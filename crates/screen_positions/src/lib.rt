@@ -2,7 +2,7 @@
 ghost use mathlib.Core.Path.{_≡_};
 ghost use Prim.Native.Nat.{_^_, _≤_, _<_};
 ghost use Rattle.screen_bytes.specs.Put.{Put};
-ghost use Rattle.screen_records.specs.Fields.{recordsFrom};
+ghost use Rattle.record_views.specs.View.{recordsFrom};
 ghost use Rattle.screen_positions.specs.Positions.{bracketed, named, namedRecords, position, positionRecords, unread, cleared, departure};
 use screen_bytes::put_byte;
 use screen_bytes::put_text;

@@ -1,27 +1,19 @@
--- Lent words as records. How many words a record has is known here and in `recordsOf` alone; a record that is missing counts as zeros.
+-- The words of records, and the texts that records hold.
 use mathlib.Core.List.{List, [], _∷_, _++_}
 use Prim.Native.Nat.{ℕ, zero, suc, _+_, _*_, _/_, _%_, _-_, _^_, min}
-use lib.ListN.{drop, getD}
+use lib.ListN.{getD}
 use Rattle.atn.specs.Reading.{Rec, rec}
-use Rattle.atn.specs.Entries.{flat}
-use Rattle.record_lists.specs.Message.{recordsOf}
+use Rattle.record_views.specs.View.{fetched}
 
--- the records from record i on
-unfoldable pub recordsFrom : ℕ → List ℕ → List Rec
-recordsFrom i W = drop i (recordsOf W)
-
--- word k of record i
-unfoldable pub field : ℕ → List Rec → ℕ → ℕ
-field k R i = getD (flat (getD R i (rec 0 0 0 0) ∷ [])) k 0
-
+-- of record i of a list: a record that is missing counts as zeros
 unfoldable pub tag : List Rec → ℕ → ℕ
-tag R i = field 0 R i
+tag R i = fetched (getD R i (rec 0 0 0 0 0)) .tag
 
 unfoldable pub value : List Rec → ℕ → ℕ
-value R i = field 2 R i
+value R i = fetched (getD R i (rec 0 0 0 0 0)) .value
 
 unfoldable pub second : List Rec → ℕ → ℕ
-second R i = field 3 R i
+second R i = fetched (getD R i (rec 0 0 0 0 0)) .second
 
 -- the length of the text that starts the records: its second number; no text of an argument has more than 32 characters
 unfoldable pub textLength : List Rec → ℕ

@@ -1,43 +1,34 @@
-// Records in lent words, and the texts that they hold. No crate above knows how many words a record has; a record that is missing counts as zeros.
+// Records in lent words, and the texts that they hold.
 ghost use mathlib.Core.Path.{_≡_};
 ghost use Prim.Native.Nat.{_^_, _≤_, _<_};
+ghost use Rattle.record_views.specs.View.{recordsFrom};
 ghost use Rattle.screen_bytes.specs.Put.{Put};
-ghost use Rattle.screen_records.specs.Fields.{recordsFrom, field, tag, value, second, textLength, textRecords, character as Fields·character, text};
+ghost use Rattle.screen_records.specs.Fields.{tag, value, second, textLength, textRecords, character as Fields·character, text};
+use record_views::record_at;
 use screen_bytes::put_byte;
-
-// The words of a record.
-const WORDS: usize = 4;
-
-// Word k of record i.
-fn word(words: &[u64], i: usize, k: usize) -> u64
-    requires { ⌜ k < 4 ⌝ }
-    ensures { λ r. ⌜ r ≡ field k (recordsFrom i (now (words .entry))) 0 ⌝ }
-{
-    if words.len() / WORDS <= i {
-        return 0;
-    }
-    words[i * WORDS + k]
-}
 
 // The tag of the record k places behind record i.
 pub fn tag_at(words: &[u64], i: usize, k: usize) -> u64
     requires { ⌜ (i < 2 ^ 62) × (k < 2 ^ 62) ⌝ }
     ensures { λ r. ⌜ r ≡ tag (recordsFrom i (now (words .entry))) k ⌝ }
 {
-    word(words, i + k, 0)
+    let x = record_at(words, i + k);
+    x.tag
 }
 
 pub fn value_at(words: &[u64], i: usize, k: usize) -> u64
     requires { ⌜ (i < 2 ^ 62) × (k < 2 ^ 62) ⌝ }
     ensures { λ r. ⌜ r ≡ value (recordsFrom i (now (words .entry))) k ⌝ }
 {
-    word(words, i + k, 2)
+    let x = record_at(words, i + k);
+    x.value
 }
 
 pub fn second_at(words: &[u64], i: usize) -> u64
     ensures { λ r. ⌜ r ≡ second (recordsFrom i (now (words .entry))) 0 ⌝ }
 {
-    word(words, i, 3)
+    let x = record_at(words, i);
+    x.second
 }
 
 // The length of the text whose first record is record i.

@@ -2,7 +2,7 @@
 ghost use Prim.Native.Nat.{_+_, _^_, _<_};
 ghost use lib.ListN.{length};
 ghost use Rattle.screen_bytes.specs.Put.{Put};
-ghost use Rattle.screen_records.specs.Fields.{recordsFrom};
+ghost use Rattle.record_views.specs.View.{recordsFrom};
 ghost use Rattle.screen_values.specs.Values.{enumeration, level, speed, degrees, frequency, code, transition, procedure, runway};
 use phrases::put_line;
 use screen_bytes::put_byte;

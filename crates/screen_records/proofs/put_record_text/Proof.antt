@@ -4,7 +4,8 @@ use native.Mathlib.Omega.{arith}
 use Prim.Native.Nat.{_-_, _≤_}
 use Rattle.screen_bytes.specs.Put.{Put}
 use Rattle.screen_bytes.proofs.Putting.{put-none, put-then, put-within, put-length}
-use Rattle.screen_records.specs.Fields.{recordsFrom, characters}
+use Rattle.screen_records.specs.Fields.{characters}
+use Rattle.record_views.specs.View.{recordsFrom}
 use Rattle.screen_records.proofs.FieldLaws.{characters-more, characters-all}
 use Rattle.screen_records.proofs.put_record_text.Statement.{statement}
 use Rattle.screen_records.proofs.put_record_text.Tie as tie
