@@ -117,8 +117,8 @@ fn main() {
     let words: Vec<&str> = arguments.iter().map(|a| a.as_str()).collect();
     let names: Vec<&'static str> = (0..256).map(|i| &*i.to_string().leak()).collect();
     let all = corpus();
-    lend(&DOWNLINK_ELEMENTS, &all.down, &names);
-    lend(&UPLINK_ELEMENTS, &all.up, &names);
+    lend(&DOWNLINK_ELEMENTS, &all.down, &names, &[]);
+    lend(&UPLINK_ELEMENTS, &all.up, &names, &[]);
     let mut lent = vec![0u64; 65536];
     let (side, passes) = match words[..] {
         ["agree"] => return agree(&all, &mut lent),

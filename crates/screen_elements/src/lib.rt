@@ -4,7 +4,7 @@ ghost use Prim.Native.Nat.{_+_, _*_, _^_, _≤_, _<_};
 ghost use lib.ListN.{length};
 ghost use Rattle.screen_bytes.specs.Put.{Put};
 ghost use Rattle.phrases.specs.Phrases.{fill};
-ghost use Rattle.screen_records.specs.Fields.{recordsFrom};
+ghost use Rattle.record_views.specs.View.{recordsFrom};
 ghost use Rattle.screen_elements.specs.Lines.{argument, valueCount, values, elementLine};
 ghost use Rattle.screen_values.specs.Words.{speedTypes};
 ghost use Rattle.screen_values.specs.Values.{enumeration};

@@ -25,9 +25,16 @@ fn outside(entry: &str, direction: &str, down: &[u8], up: &[u8], frame: &[u8]) -
         || ((entry == "pdus" || entry == "cm") && direction != "0" && direction != "1")
 }
 
+// The phrases of a direction: the lines of a file that a variable names, none where it is not set.
+fn phrases(variable: &str) -> Vec<&'static str> {
+    let text = std::env::var(variable).map(|path| std::fs::read_to_string(path).expect("phrases")).unwrap_or_default();
+    text.leak().lines().collect()
+}
+
 // A line of output for each line of input.
 fn each_case(answer: impl Fn(&Case) -> String) {
     let names: Vec<&'static str> = (0..256).map(|i| &*i.to_string().leak()).collect();
+    let (down_phrases, up_phrases) = (phrases("ADJAGOSK_DOWN_PHRASES"), phrases("ADJAGOSK_UP_PHRASES"));
     let input = std::io::stdin().lock();
     let mut output = std::io::BufWriter::new(std::io::stdout().lock());
     for line in input.lines() {
@@ -41,8 +48,8 @@ fn each_case(answer: impl Fn(&Case) -> String) {
             "outside".to_string()
         } else {
             if entry == "apdu" || entry == "pdus" {
-                lend(&DOWNLINK_ELEMENTS, &down, &names);
-                lend(&UPLINK_ELEMENTS, &up, &names);
+                lend(&DOWNLINK_ELEMENTS, &down, &names, &down_phrases);
+                lend(&UPLINK_ELEMENTS, &up, &names, &up_phrases);
             }
             answer(&Case { entry: entry.to_string(), downlink: direction == "0", frame })
         };

@@ -40,13 +40,13 @@ const TYPES: [&str; 17] = [
     "DepartureClearance",
 ];
 
-// An element's name is its index in decimal, and its phrase is empty.
-fn lend(table: &Table, bytes: &[u8], names: &[&'static str]) {
+// An element's name is its index in decimal. Its phrase is the line of this index of the phrases, and empty where there is none.
+fn lend(table: &Table, bytes: &[u8], names: &[&'static str], phrases: &[&'static str]) {
     let rows = unsafe { &mut *table.0.get() };
     rows.clear();
     for (i, &byte) in bytes.iter().enumerate() {
         let ty = TYPES.get(byte as usize).copied().unwrap_or("without a reader");
-        rows.push((names[i], ty, ""));
+        rows.push((names[i], ty, phrases.get(i).copied().unwrap_or("")));
     }
 }
 
