@@ -1,3 +1,3 @@
 // What a line of entry_lines says.
 pub mod case; // case.rt: a case
-mod fields; // fields.rt: the parts of a line
+pub mod fields; // fields.rt: the parts of a line
