@@ -1,0 +1,2 @@
+pub mod NumbersBack
+pub mod Signs

@@ -1,0 +1,1 @@
+// What follows for who reads the screen stands in proofs/. Nothing runs here.
