@@ -1,2 +1,3 @@
 pub mod NumbersBack
 pub mod Signs
+pub mod TextsBack
