@@ -1,8 +1,8 @@
 -- The first of a byte, and the lines of a table, one at a time.
 use mathlib.Core.Path.{_≡_, refl, sym, ap, _∙_}
-use mathlib.Core.Bool.{Bool, true, false, cond}
-use mathlib.Core.List.{List, [], _∷_, _++_}
-use mathlib.Core.Option.{Option, none, some}
+use mathlib.Core.Bool.{true, false}
+use mathlib.Core.List.{List, []}
+use mathlib.Core.Option.{none}
 use Prim.Native.Nat.{ℕ, zero, suc, _+_, _-_, _≤_, _<_}
 use native.Mathlib.Nat.{add-zero}
 use native.Mathlib.Numerals.{add-one}
@@ -13,7 +13,6 @@ use borrow.Author.Tests.{eq-eqb, ne-eqb}
 use Rattle.screen_bytes.specs.Put.{Put}
 use Rattle.screen_bytes.proofs.Putting.{put-within}
 use Rattle.phrases.specs.declared.Phrase.{Phrase}
-use Rattle.phrases.specs.declared.Bracket.{Bracket}
 use Rattle.phrases.specs.Phrases.{place, phraseOf, orNothing, lineOf, close}
 use Rattle.phrases.specs.Found.{Placed, Found, Bracketed}
 

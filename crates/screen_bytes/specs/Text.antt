@@ -1,7 +1,7 @@
 -- The bytes of a fixed text, which stands in definitions as it is shown.
 use mathlib.Core.List.{List, [] as []ᴸ, _∷_ as _∷ᴸ_}
 use Prim.Native.Nat.{ℕ}
-use Prim.Native.Char.{Char, code}
+use Prim.Native.Char.{code}
 use Prim.Native.String.{String, [], _∷_}
 
 -- characters of seven bits, one byte each

@@ -1,6 +1,6 @@
 -- A phrase is filled, one bracket after the other.
-use mathlib.Core.Path.{_≡_, refl, sym, ap, _∙_}
-use mathlib.Core.List.{List, [], _∷_, _++_}
+use mathlib.Core.Path.{_≡_, ap, _∙_}
+use mathlib.Core.List.{List, _++_}
 use Prim.Native.Nat.{ℕ, suc, _+_, _-_, _≤_, _<_}
 use native.Mathlib.Omega.{arith}
 use lib.ListN.{length, take, drop, length-drop}
@@ -8,7 +8,7 @@ use lib.Seq.{length-take-le}
 use borrow.Author.Tests.{lt-ltb, le-ltb}
 use Rattle.atn.specs.Reading.{Rec}
 use Rattle.phrases.specs.declared.Bracket.{Bracket}
-use Rattle.phrases.specs.Phrases.{place, close, fill}
+use Rattle.phrases.specs.Phrases.{close, fill}
 use Rattle.phrases.specs.Found.{Bracketed}
 use Rattle.phrases.proofs.PhraseLaws.{tail}
 use Rattle.screen_elements.specs.Lines.{argument, values}

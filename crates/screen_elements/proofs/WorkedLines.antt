@@ -10,7 +10,7 @@ use Rattle.screen_records.specs.Fields.{tag, value, second, textLength, textRec
 use Rattle.screen_values.specs.Words.{speedTypes, runwaySides}
 use Rattle.screen_values.specs.Values.{enumeration, level, speed, runway}
 use Rattle.screen_coordinates.specs.Coordinates.{latitudeSides, angle, angleRecords, longitudeAt, latitude, longitude, between, coordinates, coordinatesRecords}
-use Rattle.screen_positions.specs.Positions.{bracketed, named, namedRecords, position, positionRecords, unread, cleared, departure}
+use Rattle.screen_positions.specs.Positions.{bracketed, named, namedRecords, position, positionRecords, note, unread, cleared, departure}
 use Rattle.screen_elements.specs.Lines.{argument, valueCount, values, elementLine}
 
 -- without an argument the phrase is as it is
@@ -51,5 +51,5 @@ left-runway = refl
 
 -- a fix with coordinates, of a departure clearance with an unread part
 pub departure-line : elementLine (bytes "[clearance]") 16 (rec 70 1 4702039485951508480 2 70 ∷ rec 30 1 0 0 90 ∷ rec 31 1 4702039485951508480 2 93 ∷ rec 34 1 0 0 110 ∷ rec 35 1 0 0 112 ∷ rec 36 1 48500 0 114 ∷ rec 41 1 0 0 131 ∷ rec 71 1 1 0 132 ∷ []) ≡ bytes "AA CLEARED TO AA (48.500" ++ degreeSign ++ bytes "N) (+flight-info/further-instructions present, undecoded)"
-unfolding elementLine valueCount values fill argument bytes degreeSign place close departure cleared unread position positionRecords named namedRecords bracketed coordinates coordinatesRecords latitude longitude longitudeAt between angle angleRecords latitudeSides text textLength textRecords character characters tag second value lineOf orNothing phraseOf thousandths decimal digits digit
+unfolding elementLine valueCount values fill argument bytes degreeSign place close departure cleared unread note position positionRecords named namedRecords bracketed coordinates coordinatesRecords latitude longitude longitudeAt between angle angleRecords latitudeSides text textLength textRecords character characters tag second value lineOf orNothing phraseOf thousandths decimal digits digit
 departure-line = refl

@@ -1,6 +1,6 @@
 -- The line of an element: "the Rust's `text`, or the phrase where it has none".
 use mathlib.Core.Bool.{cond}
-use mathlib.Core.List.{List, [], _∷_, _++_}
+use mathlib.Core.List.{List, [], _∷_}
 use Prim.Native.Nat.{ℕ, zero, suc}
 use lib.ListN.{drop, getD}
 use lib.Dec.{ltb, eqb}

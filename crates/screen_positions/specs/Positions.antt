@@ -26,9 +26,12 @@ position R = getD (named (drop 1 R) ∷ named (drop 1 R) ∷ text (drop 1 R) ∷
 unfoldable pub positionRecords : List Rec → ℕ
 positionRecords R = 1 + getD (namedRecords (drop 1 R) ∷ namedRecords (drop 1 R) ∷ textRecords (drop 1 R) ∷ []) (value R 0) (coordinatesRecords (drop 1 R))
 
--- what stands behind the position: flight information (tag 71), further instructions (tag 72), or neither
+-- behind the position: flight information (tag 71), further instructions (tag 72), or neither
+unfoldable pub note : List ℕ
+note = bytes " (+flight-info/further-instructions present, undecoded)"
+
 unfoldable pub unread : ℕ → List ℕ
-unread t = cond (eqb t 71) (bytes " (+flight-info/further-instructions present, undecoded)") (cond (eqb t 72) (bytes " (+flight-info/further-instructions present, undecoded)") [])
+unread t = cond (eqb t 71) note (cond (eqb t 72) note [])
 
 -- `read_departure_clearance`
 unfoldable pub cleared : List Rec → List ℕ

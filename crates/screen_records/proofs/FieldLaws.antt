@@ -1,11 +1,11 @@
 -- Records of lent words, by their words.
-use mathlib.Core.Path.{_≡_, refl, sym, ap, _∙_}
+use mathlib.Core.Path.{_≡_, sym, ap, _∙_}
 use mathlib.Core.List.{List, [], _∷_, _++_}
-use Prim.Native.Nat.{ℕ, zero, suc, _+_, _*_, _/_, _-_, _≤_, _<_}
+use Prim.Native.Nat.{ℕ, _+_, _-_, _≤_}
 use native.Mathlib.Numerals.{add-one}
 use native.Mathlib.Omega.{arith}
-use lib.ListN.{length, drop, getD, List·getD-eq-default}
-use lib.Seq.{getD-drop, drop-drop}
+use lib.ListN.{drop, getD}
+use lib.Seq.{drop-drop}
 use Rattle.atn.specs.Reading.{Rec, rec}
 use Rattle.record_lists.specs.Message.{recordsOf}
 use Rattle.record_views.specs.View.{recordAt, recordsFrom, fetched}

@@ -1,5 +1,4 @@
 use borrow.Author.Needs.{needs}
-use native.Mathlib.Omega.{arith}
 use Rattle.screen_numbers.specs.Numbers.{digit}
 use Rattle.screen_numbers.proofs.digit.Statement.{statement}
 use Rattle.screen_numbers.proofs.digit.Tie as tie

@@ -1,5 +1,4 @@
 use borrow.Author.Needs.{needs}
-use native.Mathlib.Omega.{arith}
 use Rattle.screen_bytes.proofs.Putting.{put-then, put-length}
 use Rattle.screen_positions.specs.Positions.{cleared}
 use Rattle.screen_positions.proofs.put_cleared.Statement.{statement}

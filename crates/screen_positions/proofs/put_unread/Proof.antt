@@ -3,19 +3,19 @@ use native.Mathlib.Omega.{arith}
 use borrow.Author.Tests.{eq-eqb, ne-eqb}
 use Rattle.screen_bytes.specs.Text.{bytes}
 use Rattle.screen_bytes.proofs.Putting.{put-none, put-within, put-length}
-use Rattle.screen_positions.specs.Positions.{unread}
+use Rattle.screen_positions.specs.Positions.{note, unread}
 use Rattle.screen_positions.proofs.put_unread.Statement.{statement}
 use Rattle.screen_positions.proofs.put_unread.Tie as tie
 
 returns : tie.Need-returns
-unfolding unread bytes
+unfolding unread note bytes
 returns c = rw (eq-eqb _ 71 (c .before .before .before .before .before .if1 .taken)) (put-within 60 (omega arith) (c .before .before .put-text .ensures))
 
 same-length : tie.Need-same-length
 same-length c = put-length (returns c)
 
 returns-2 : tie.Need-returns-2
-unfolding unread bytes
+unfolding unread note bytes
 returns-2 c = rw (ne-eqb _ 71 (c .before .before .before .before .before .before .if1 .left), eq-eqb _ 72 (c .before .before .before .before .before .if2 .taken)) (put-within 60 (omega arith) (c .before .before .put-text2 .ensures))
 
 same-length-2 : tie.Need-same-length-2

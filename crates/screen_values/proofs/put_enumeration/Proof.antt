@@ -1,7 +1,7 @@
 use borrow.Author.Needs.{needs}
 use native.Mathlib.Omega.{arith}
-use Rattle.screen_bytes.specs.Text.{bytes, degreeSign}
-use Rattle.screen_bytes.proofs.Putting.{put-then, put-within, put-length}
+use Rattle.screen_bytes.specs.Text.{bytes}
+use Rattle.screen_bytes.proofs.Putting.{put-within, put-length}
 use borrow.Author.Tests.{eq-eqb, ne-eqb}
 use Rattle.screen_values.specs.Values.{enumeration}
 use Rattle.screen_values.proofs.put_enumeration.Statement.{statement}
