@@ -20,7 +20,8 @@ struct adjagosk_numbers {
     bool cut;         /* the frame ended where the reading carries on without the missing part */
     size_t reach;     /* the bits of the frame that the answer rests on */
     uint64_t marks;   /* the sum of 2^(mark - 1) over the marks 1 to 7 */
-    size_t records;   /* each has four words, at the front: tag, element, value, second number; words behind them stay */
+    size_t records;   /* each has five words, at the front: tag, element, value, second number, and the bit where
+                         its field starts; words behind them stay */
     size_t need;      /* behind 7: the words needed */
     size_t lacked;    /* behind 4: the bits that the first read past the end lacked */
 }; /* behind a refusal all but `refused`, `reach`, `need` and `lacked` is 0, and the words stay */
@@ -51,9 +52,9 @@ struct adjagosk_frame {
     size_t need;      /* behind 9: the bytes needed */
 }; /* behind a refusal the bytes stay */
 
-/* From a list of records, four words each, to the frame of a clean message: kind 0 CPDLC, 1 Context Management,
+/* From a list of records, five words each, to the frame of a clean message: kind 0 CPDLC, 1 Context Management,
    2 association control; direction 0 the aircraft's message, 1 the ground's. The list's spans point into the bits of
-   `source`. Nothing of `out` may overlap what is read. */
+   `source`, and the fifth word of a record says nothing. Nothing of `out` may overlap what is read. */
 struct adjagosk_frame adjagosk_write(uint64_t kind, uint64_t direction,
                                      const uint8_t *down, size_t down_length,
                                      const uint8_t *up, size_t up_length,
