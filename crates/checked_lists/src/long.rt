@@ -13,13 +13,13 @@ fn logon() -> [u8; 60] {
     frame
 }
 
-fn records() -> [u64; 260] {
-    let mut words = [0u64; 260];
+fn records() -> [u64; 325] {
+    let mut words = [0u64; 325];
     parse_cm(&logon(), 0, &mut words);
     words
 }
 
-fn check(what: &[u8], direction: u64, words: &[u64; 260], n: usize) {
+fn check(what: &[u8], direction: u64, words: &[u64; 325], n: usize) {
     first(what, direction, words, n);
 }
 
@@ -33,10 +33,10 @@ fn first(what: &[u8], direction: u64, words: &[u64], n: usize) {
 
 pub fn lists() {
     let mut words = records();
-    check(b"all 64", 0, &words, 256);
-    check(b"63", 0, &words, 252);
-    check(b"65", 0, &words, 260);
-    check(b"as the ground's", 1, &words, 256);
-    words[255] = 1;
-    check(b"a second number in the last", 0, &words, 256);
+    check(b"all 64", 0, &words, 320);
+    check(b"63", 0, &words, 315);
+    check(b"65", 0, &words, 325);
+    check(b"as the ground's", 1, &words, 320);
+    words[318] = 1;
+    check(b"a second number in the last", 0, &words, 320);
 }

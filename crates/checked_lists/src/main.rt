@@ -7,6 +7,7 @@ mod long; // long.rt: more records than most messages have
 fn main() {
     short::lists();
     short::changed();
+    short::placed();
     short::other_entries();
     short::refusals();
     long::lists();

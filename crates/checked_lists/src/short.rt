@@ -28,27 +28,36 @@ fn first(what: &[u8], frame: &[u8], entry: Entry, down: &[u8], words: &[u64], n:
 
 pub fn lists() {
     let words = records();
-    check(b"all eleven", &words, 44);
+    check(b"all eleven", &words, 55);
     check(b"no record", &words, 0);
     check(b"one word", &words, 1);
-    check(b"ten", &words, 40);
-    check(b"ten and three words", &words, 43);
-    check(b"eleven and a word", &words, 45);
-    check(b"twelve", &words, 48);
+    check(b"ten", &words, 50);
+    check(b"ten and four words", &words, 54);
+    check(b"eleven and a word", &words, 56);
+    check(b"twelve", &words, 60);
 }
 
 pub fn changed() {
     let mut words = records();
-    words[41] = 2;
-    check(b"another element number in the eleventh", &words, 44);
-    check(b"the same, and a word", &words, 45);
+    words[51] = 2;
+    check(b"another element number in the eleventh", &words, 55);
+    check(b"the same, and a word", &words, 56);
     words[3] = 1;
-    check(b"a second number in the first", &words, 44);
+    check(b"a second number in the first", &words, 55);
+}
+
+// The place of a field is held to the reading too: that of the second record, the message's index, is behind the extension bit.
+pub fn placed() {
+    let mut words = records();
+    words[54] = 0;
+    check(b"another place in the eleventh", &words, 55);
+    words[9] = 0;
+    check(b"another place in the second", &words, 55);
 }
 
 // All eleven records.
 fn by(what: &[u8], frame: &[u8], entry: Entry, down: &[u8], words: &[u64; 64]) {
-    first(what, frame, entry, down, words, 44);
+    first(what, frame, entry, down, words, 55);
 }
 
 pub fn other_entries() {

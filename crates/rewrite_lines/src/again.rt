@@ -42,10 +42,10 @@ pub fn heard(
             if marks != 0 {
                 return not_clean(gathered, output);
             }
-            if words.len() / 4 < count {
+            if words.len() / 5 < count {
                 return not_clean(gathered, output);
             }
-            let records = &words[..count * 4];
+            let records = &words[..count * 5];
             message(
                 gathered,
                 output,
