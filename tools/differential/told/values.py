@@ -63,6 +63,8 @@ def frequency(records):
     kind = records.number(tag.FREQUENCY)
     if kind == 3:
         shown = records.text(tag.SATELLITE_CHANNEL)
+        if not shown or min(shown) < "0" or max(shown) > "?":
+            raise Misfit(f"{shown!r} has characters of no channel")
         if max(shown) <= ":":
             numeric = "".join(" 0123456789"[ord(character) - ord("0")] for character in shown)
             if records.text(tag.SATELLITE_CHANNEL_X691) != numeric:
