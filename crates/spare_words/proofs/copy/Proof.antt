@@ -1,76 +1,72 @@
--- The invariant of the loop: `to` has the first i words of `from` and then its own, and is as long as it was.
-use mathlib.Core.Path.{_≡_, refl, sym, ap, _∙_, subst}
-use mathlib.Core.List.{List, [], _∷_, _++_}
-use Prim.Native.Nat.{ℕ, zero, suc, _-_, _≤_, _<_, zero-le}
-use native.Mathlib.Nat.{le-trans, le-antisymm, le-of-suc-le-suc, not-suc-le-zero}
-use native.Mathlib.Numerals.{add-one, add-one-le}
+-- The invariant of each loop: since it began, the words of `from` up to i were copied.
+use Prim.Native.Nat.{_-_, _≤_}
+use native.Mathlib.Nat.{le-refl}
 use native.Mathlib.Omega.{arith}
-use lib.ListN.{length, take, drop, getD, set, length-set}
-use borrow.Author.Count.{falls}
+use lib.ListN.{length}
 use borrow.Author.Needs.{needs}
+use Rattle.spare_words.proofs.CopyLaws.{Copied, tail-length, copied-none, copied-on, copied-then, copied-more, copied-word, copied-all}
 use Rattle.spare_words.proofs.copy.Statement.{statement}
 use Rattle.spare_words.proofs.copy.Tie as tie
 
-Inv-loop : tie.InvT-loop
-Inv-loop from to₀ i₀ to i = (i ≤ length from) × ((to ≡ take i from ++ drop i to₀) × (length to ≡ length to₀))
+abbrev Inv-loop : tie.InvT-loop
+Inv-loop from to₀ i₀ to i = (i₀ ≤ i) × Copied from to₀ to i
 
-μ-loop : tie.MeasureT-loop
+abbrev μ-loop : tie.MeasureT-loop
 μ-loop from to₀ i₀ to i = length from - i
 
--- a turn takes the copy of i words to the copy of one more
-store : (from to : List ℕ) (i : ℕ) → i < length from → i < length to → set (take i from ++ drop i to) i (getD from i 0) ≡ take (suc i) from ++ drop (suc i) to
-store [] to i h k = absurd (not-suc-le-zero h)
-store (x ∷ xs) [] i h k = absurd (not-suc-le-zero k)
-store (x ∷ xs) (y ∷ ys) zero h k = refl
-store (x ∷ xs) (y ∷ ys) (suc i) h k = ap (λ (l : List ℕ). x ∷ l) (store xs ys i (le-of-suc-le-suc h) (le-of-suc-le-suc k))
+abbrev Inv-loop2 : tie.InvT-loop2
+Inv-loop2 from to₀ i₀ to i = (i₀ ≤ i) × Copied from to₀ to i
 
-take-all : (xs : List ℕ) → take (length xs) xs ≡ xs
-take-all [] = refl
-take-all (x ∷ xs) = ap (λ (l : List ℕ). x ∷ l) (take-all xs)
+abbrev μ-loop2 : tie.MeasureT-loop2
+μ-loop2 from to₀ i₀ to i = length from - i
 
-loop-holds : tie.Need-loop-holds Inv-loop μ-loop
-unfolding Inv-loop
-loop-holds c = (zero-le, (refl, refl))
+abbrev Inv-loop3 : tie.InvT-loop3
+Inv-loop3 from to₀ i₀ to i = (i₀ ≤ i) × Copied from to₀ to i
 
--- in a turn i is below the length that `to` came with
-below : (c : tie.In-loop Inv-loop μ-loop) → c .before .loop .i < length (c .before .before .args .to .now)
-below c = le-trans (c .loop-test .taken) (c .before .before .pre)
+abbrev μ-loop3 : tie.MeasureT-loop3
+μ-loop3 from to₀ i₀ to i = length from - i
 
-slice-write-to : tie.Need-slice-write-to Inv-loop μ-loop
-unfolding Inv-loop
-slice-write-to c =
-    let at-loop = c .before .before in
-    subst (λ (n : ℕ). at-loop .loop .i < n) (sym (at-loop .loop .inv .1 .1)) (below (c .before))
+loop-holds : tie.Need-loop-holds Inv-loop μ-loop Inv-loop2 μ-loop2 Inv-loop3 μ-loop3
+loop-holds c = (le-refl _, copied-none (c .before .before .pre))
 
-loop-less : tie.Need-loop-less Inv-loop μ-loop
-unfolding μ-loop
-loop-less c = falls (length (c .before .before .before .args .from .now)) (c .before .before .loop .i) (c .before .loop-test .taken)
+copy-two-requires : tie.Need-copy-two-requires Inv-loop μ-loop Inv-loop2 μ-loop2 Inv-loop3 μ-loop3
+copy-two-requires c κs =
+    let l = c .before .before .before .loop in
+    simp tail-length (omega (arith, c .before .before .loop-test .taken), omega (arith, c .before .before .loop-test .taken, l .inv .1 .fits, l .inv .1 .long))
 
-loop-again : tie.Need-loop-again Inv-loop μ-loop
-unfolding Inv-loop
-loop-again c =
-    let z = c .before .before .loop in
-    let a = c .before .before .before .args in (
-      add-one-le (c .before .loop-test .taken),
-      (
-        ap (λ (l : List ℕ). set l (z .i) (getD (a .from .now) (z .i) 0)) (z .inv .1 .0)
-            ∙ store (a .from .now) (a .to .now) (z .i) (c .before .loop-test .taken) (below (c .before))
-            ∙ ap (λ (n : ℕ). take n (a .from .now) ++ drop n (a .to .now)) (sym (add-one (z .i))),
-        length-set (z .to) (z .i) (getD (a .from .now) (z .i) 0) ∙ z .inv .1 .1,
-      ),
-    )
+loop-again : tie.Need-loop-again Inv-loop μ-loop Inv-loop2 μ-loop2 Inv-loop3 μ-loop3
+loop-again c = (omega arith, copied-more 10 (c .before .before .before .before .before .before .loop .inv .1) (c .before .before .before .before .before .loop-test .taken) (c .before .before .copy-two .ensures))
 
-same-length : tie.Need-same-length Inv-loop μ-loop
-unfolding Inv-loop
-same-length c = c .before .loop .inv .1 .1
+loop2-holds : tie.Need-loop2-holds Inv-loop μ-loop Inv-loop2 μ-loop2 Inv-loop3 μ-loop3
+loop2-holds c = (le-refl _, copied-on (c .before .loop .inv .1))
 
-returns : tie.Need-returns Inv-loop μ-loop
-unfolding Inv-loop
-returns c =
-    let at-loop = c .before in
-    let a = at-loop .before .args in
-    let n : at-loop .loop .i ≡ length (a .from .now) = le-antisymm (at-loop .loop .inv .0) (c .loop-test .left) in
-    at-loop .loop .inv .1 .0 ∙ ap (λ (k : ℕ). take k (a .from .now) ++ drop k (a .to .now)) n ∙ ap (λ (l : List ℕ). l ++ drop (length (a .from .now)) (a .to .now)) (take-all (a .from .now))
+copy-one-requires : tie.Need-copy-one-requires Inv-loop μ-loop Inv-loop2 μ-loop2 Inv-loop3 μ-loop3
+copy-one-requires c κs =
+    let l = c .before .before .before .loop2 in
+    simp tail-length (omega (arith, c .before .before .loop2-test .taken), omega (arith, c .before .before .loop2-test .taken, l .inv .1 .fits, l .inv .1 .long))
+
+loop2-again : tie.Need-loop2-again Inv-loop μ-loop Inv-loop2 μ-loop2 Inv-loop3 μ-loop3
+loop2-again c = (omega (arith, c .before .before .before .before .before .before .loop2 .inv .0), copied-more 5 (c .before .before .before .before .before .before .loop2 .inv .1) (c .before .before .before .before .before .loop2-test .taken) (c .before .before .copy-one .ensures))
+
+loop3-holds : tie.Need-loop3-holds Inv-loop μ-loop Inv-loop2 μ-loop2 Inv-loop3 μ-loop3
+loop3-holds c = (le-refl _, copied-on (c .before .loop2 .inv .1))
+
+loop3-again : tie.Need-loop3-again Inv-loop μ-loop Inv-loop2 μ-loop2 Inv-loop3 μ-loop3
+loop3-again c = (omega (arith, c .before .before .loop3 .inv .0), copied-word (c .before .before .loop3 .inv .1) (c .before .loop3-test .taken))
+
+-- the three loops, one after another
+all : (c : tie.After-loop3 Inv-loop μ-loop Inv-loop2 μ-loop2 Inv-loop3 μ-loop3) → Copied (c .before .before .before .before .before .before .before .before .args .from .now) (c .before .before .before .before .before .before .before .before .args .to .now) (c .before .loop3 .to) (c .before .loop3 .i)
+all c =
+    let l = c .before .before .before .before .before .loop in
+    let l2 = c .before .before .before .loop2 in
+    let l3 = c .before .loop3 in
+    copied-then (copied-then (l .inv .1) (l2 .inv .0) (l2 .inv .1)) (l3 .inv .0) (l3 .inv .1)
+
+same-length : tie.Need-same-length Inv-loop μ-loop Inv-loop2 μ-loop2 Inv-loop3 μ-loop3
+same-length c = all c .long
+
+returns : tie.Need-returns Inv-loop μ-loop Inv-loop2 μ-loop2 Inv-loop3 μ-loop3
+returns c = copied-all (all c) (c .loop3-test .left)
 
 pub copy-spec : {M : Type 1} → statement M
-copy-spec = tie.close (tie.spec Inv-loop μ-loop loop-holds (λ c. search needs) (λ c. c .before .loop-test .taken) (λ c. search needs) slice-write-to (λ c. search needs) loop-less loop-again same-length returns)
+copy-spec = tie.close (tie.spec Inv-loop μ-loop Inv-loop2 μ-loop2 Inv-loop3 μ-loop3 loop-holds (λ c. search needs) (λ c. search needs) (λ c. search needs) (λ c. search needs) (λ c. search needs) (λ c. search needs) (λ c. search needs) (λ c. search needs) (λ c. search needs) copy-two-requires (λ c. search needs) (λ c. search needs) loop-again loop2-holds (λ c. search needs) (λ c. search needs) (λ c. search needs) (λ c. search needs) (λ c. search needs) (λ c. search needs) (λ c. search needs) (λ c. search needs) (λ c. search needs) copy-one-requires (λ c. search needs) (λ c. search needs) loop2-again loop3-holds (λ c. search needs) (λ c. search needs) (λ c. search needs) (λ c. search needs) (λ c. search needs) (λ c. search needs) loop3-again same-length returns)
