@@ -2,8 +2,6 @@ use Rattle.element_kinds.specs.Agreed.{isLast}
 use borrow.Author.Tests.{eq-eqb, ne-eqb}
 use Rattle.element_kinds.proofs.is_last.Statement.{statement}
 use Rattle.element_kinds.proofs.is_last.Tie as tie
-use Rattle.element_kinds.proofs.is_last.Reads as reads
-use Rattle.element_kinds.proofs.is_last.Lts as lts
 
 returns : tie.Need-returns
 unfolding isLast

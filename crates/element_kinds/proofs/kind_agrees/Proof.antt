@@ -3,16 +3,10 @@ use borrow.Author.Tests.{eq-eqb, ne-eqb}
 use borrow.Author.Needs.{needs}
 use Rattle.element_kinds.proofs.kind_agrees.Statement.{statement}
 use Rattle.element_kinds.proofs.kind_agrees.Tie as tie
-use Rattle.element_kinds.proofs.kind_agrees.Reads as reads
-use Rattle.element_kinds.proofs.kind_agrees.Lts as lts
-use Rattle.element_kinds.proofs.is_last.Reads as is-last-reads
 
 returns : tie.Need-returns
 unfolding kindAgrees
 returns c = simp (eq-eqb _ _ (c .if1 .taken))
-
-is-last-requires : tie.Need-is-last-requires
-is-last-requires c κs = search needs
 
 returns-2 : tie.Need-returns-2
 unfolding kindAgrees
@@ -23,4 +17,4 @@ unfolding kindAgrees
 returns-3 c = simp (ne-eqb _ _ (c .before .if1 .left), ne-eqb _ _ (c .if2 .left))
 
 pub kind-agrees-spec : {M : Type 1} → statement M
-kind-agrees-spec = tie.close (tie.spec returns is-last-requires returns-2 returns-3)
+kind-agrees-spec = tie.close (tie.spec returns (λ c κs. search needs) returns-2 returns-3)

@@ -2,8 +2,6 @@ use Rattle.element_kinds.specs.Kinds.{kindBy}
 use borrow.Author.Tests.{eq-eqb, ne-eqb}
 use Rattle.element_kinds.proofs.kind_by.Statement.{statement}
 use Rattle.element_kinds.proofs.kind_by.Tie as tie
-use Rattle.element_kinds.proofs.kind_by.Reads as reads
-use Rattle.element_kinds.proofs.kind_by.Lts as lts
 
 returns : tie.Need-returns
 unfolding kindBy

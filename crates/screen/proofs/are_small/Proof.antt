@@ -1,4 +1,3 @@
-use borrow.Author.Needs.{needs}
 use borrow.Author.Tests.{lt-ltb, le-ltb}
 use Rattle.screen.specs.Screen.{small}
 use Rattle.screen.proofs.are_small.Statement.{statement}

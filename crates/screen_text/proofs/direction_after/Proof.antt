@@ -1,4 +1,3 @@
-use borrow.Author.Needs.{needs}
 use borrow.Author.Tests.{eq-eqb, ne-eqb}
 use Rattle.screen_text.specs.Text.{direction}
 use Rattle.screen_text.proofs.direction_after.Statement.{statement}

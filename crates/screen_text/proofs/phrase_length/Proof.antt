@@ -1,4 +1,3 @@
-use borrow.Author.Needs.{needs}
 use Rattle.screen_text.specs.Text.{phraseLength}
 use Rattle.screen_text.proofs.phrase_length.Statement.{statement}
 use Rattle.screen_text.proofs.phrase_length.Tie as tie

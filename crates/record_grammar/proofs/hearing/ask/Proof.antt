@@ -2,8 +2,6 @@ use Rattle.record_grammar.specs.Rows.{asked}
 use borrow.Author.Tests.{eq-eqb, ne-eqb}
 use Rattle.record_grammar.proofs.hearing.ask.Statement.{statement}
 use Rattle.record_grammar.proofs.hearing.ask.Tie as tie
-use Rattle.record_grammar.proofs.hearing.ask.Reads as reads
-use Rattle.record_grammar.proofs.hearing.ask.Lts as lts
 
 returns : tie.Need-returns
 unfolding asked

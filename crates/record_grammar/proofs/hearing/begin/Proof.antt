@@ -2,8 +2,6 @@ use mathlib.Core.Path.{refl}
 use Rattle.record_grammar.specs.Heard.{start}
 use Rattle.record_grammar.proofs.hearing.begin.Statement.{statement}
 use Rattle.record_grammar.proofs.hearing.begin.Tie as tie
-use Rattle.record_grammar.proofs.hearing.begin.Reads as reads
-use Rattle.record_grammar.proofs.hearing.begin.Lts as lts
 
 returns : tie.Need-returns
 unfolding start

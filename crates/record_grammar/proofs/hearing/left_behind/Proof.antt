@@ -3,16 +3,6 @@ use borrow.Author.Tests.{eq-eqb, ne-eqb}
 use borrow.Author.Needs.{needs}
 use Rattle.record_grammar.proofs.hearing.left_behind.Statement.{statement}
 use Rattle.record_grammar.proofs.hearing.left_behind.Tie as tie
-use Rattle.record_grammar.proofs.hearing.left_behind.Reads as reads
-use Rattle.record_grammar.proofs.hearing.left_behind.Lts as lts
-use Rattle.record_grammar.proofs.hearing.less_eight.Reads as less-eight-reads
-use Rattle.record_grammar.proofs.rows.still_unheard.Reads as still-unheard-reads
-
-still-unheard-requires : tie.Need-still-unheard-requires
-still-unheard-requires c κs = search needs
-
-less-eight-requires : tie.Need-less-eight-requires
-less-eight-requires c κs = search needs
 
 returns : tie.Need-returns
 unfolding leftBehind
@@ -24,4 +14,4 @@ returns-2 c = simp (ne-eqb _ _ (c .if1 .left))
 
 pub left-behind-spec : {M : Type 1} → statement M
 left-behind-spec =
-    tie.close (tie.spec still-unheard-requires less-eight-requires returns returns-2)
+    tie.close (tie.spec (λ c κs. search needs) (λ c κs. search needs) returns returns-2)

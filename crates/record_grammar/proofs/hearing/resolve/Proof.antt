@@ -2,8 +2,6 @@ use Rattle.record_grammar.specs.Rows.{resolved}
 use borrow.Author.Tests.{eq-eqb, ne-eqb}
 use Rattle.record_grammar.proofs.hearing.resolve.Statement.{statement}
 use Rattle.record_grammar.proofs.hearing.resolve.Tie as tie
-use Rattle.record_grammar.proofs.hearing.resolve.Reads as reads
-use Rattle.record_grammar.proofs.hearing.resolve.Lts as lts
 
 returns : tie.Need-returns
 unfolding resolved

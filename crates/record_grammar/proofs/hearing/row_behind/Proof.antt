@@ -2,8 +2,6 @@ use Rattle.record_grammar.specs.Rows.{rowBehind}
 use borrow.Author.Tests.{eq-eqb, ne-eqb}
 use Rattle.record_grammar.proofs.hearing.row_behind.Statement.{statement}
 use Rattle.record_grammar.proofs.hearing.row_behind.Tie as tie
-use Rattle.record_grammar.proofs.hearing.row_behind.Reads as reads
-use Rattle.record_grammar.proofs.hearing.row_behind.Lts as lts
 
 returns : tie.Need-returns
 unfolding rowBehind

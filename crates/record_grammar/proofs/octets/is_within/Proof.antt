@@ -2,8 +2,6 @@ use Rattle.record_grammar.specs.Octets.{within}
 use borrow.Author.Tests.{le-leb, le-ltb, lt-leb, lt-ltb}
 use Rattle.record_grammar.proofs.octets.is_within.Statement.{statement}
 use Rattle.record_grammar.proofs.octets.is_within.Tie as tie
-use Rattle.record_grammar.proofs.octets.is_within.Reads as reads
-use Rattle.record_grammar.proofs.octets.is_within.Lts as lts
 
 returns : tie.Need-returns
 unfolding within

@@ -3,19 +3,12 @@ use borrow.Author.Tests.{eq-eqb, ne-eqb}
 use borrow.Author.Needs.{needs}
 use Rattle.record_grammar.proofs.octets.octet_fits.Statement.{statement}
 use Rattle.record_grammar.proofs.octets.octet_fits.Tie as tie
-use Rattle.record_grammar.proofs.octets.octet_fits.Reads as reads
-use Rattle.record_grammar.proofs.octets.octet_fits.Lts as lts
-use Rattle.record_grammar.proofs.octets.is_within.Reads as is-within-reads
-use Rattle.record_grammar.proofs.octets.spaced_one.Reads as spaced-one-reads
 
 returns : tie.Need-returns
 unfolding octetFits
 returns c =
     rw
     (eq-eqb _ _ (c .if1 .taken))
-
-is-within-requires : tie.Need-is-within-requires
-is-within-requires c κs = search needs
 
 returns-2 : tie.Need-returns-2
 unfolding octetFits
@@ -26,9 +19,6 @@ returns-2 c =
       ← c .is-within .ensures,
     )
 
-is-within-requires-2 : tie.Need-is-within-requires-2
-is-within-requires-2 c κs = search needs
-
 returns-3 : tie.Need-returns-3
 unfolding octetFits
 returns-3 c =
@@ -38,9 +28,6 @@ returns-3 c =
       eq-eqb _ _ (c .before .if3 .taken),
       ← c .is-within2 .ensures,
     )
-
-spaced-one-requires : tie.Need-spaced-one-requires
-spaced-one-requires c κs = search needs
 
 returns-4 : tie.Need-returns-4
 unfolding octetFits
@@ -66,12 +53,4 @@ returns-5 c =
 pub octet-fits-spec : {M : Type 1} → statement M
 octet-fits-spec =
     tie.close
-    (tie.spec
-    returns
-    is-within-requires
-    returns-2
-    is-within-requires-2
-    returns-3
-    spaced-one-requires
-    returns-4
-    returns-5)
+    (tie.spec returns (λ c κs. search needs) returns-2 (λ c κs. search needs) returns-3 (λ c κs. search needs) returns-4 returns-5)

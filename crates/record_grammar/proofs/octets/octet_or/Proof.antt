@@ -3,12 +3,6 @@ use borrow.Author.Tests.{eq-eqb, ne-eqb}
 use borrow.Author.Needs.{needs}
 use Rattle.record_grammar.proofs.octets.octet_or.Statement.{statement}
 use Rattle.record_grammar.proofs.octets.octet_or.Tie as tie
-use Rattle.record_grammar.proofs.octets.octet_or.Reads as reads
-use Rattle.record_grammar.proofs.octets.octet_or.Lts as lts
-use Rattle.record_grammar.proofs.octets.octet_fits.Reads as octet-fits-reads
-
-octet-fits-requires : tie.Need-octet-fits-requires
-octet-fits-requires c κs = search needs
 
 returns : tie.Need-returns
 unfolding octetOr
@@ -25,4 +19,4 @@ returns-2 c =
     (ne-eqb _ _ (c .if1 .left))
 
 pub octet-or-spec : {M : Type 1} → statement M
-octet-or-spec = tie.close (tie.spec octet-fits-requires returns returns-2)
+octet-or-spec = tie.close (tie.spec (λ c κs. search needs) returns returns-2)

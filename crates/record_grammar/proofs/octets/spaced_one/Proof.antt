@@ -3,18 +3,12 @@ use borrow.Author.Tests.{eq-eqb, ne-eqb}
 use borrow.Author.Needs.{needs}
 use Rattle.record_grammar.proofs.octets.spaced_one.Statement.{statement}
 use Rattle.record_grammar.proofs.octets.spaced_one.Tie as tie
-use Rattle.record_grammar.proofs.octets.spaced_one.Reads as reads
-use Rattle.record_grammar.proofs.octets.spaced_one.Lts as lts
-use Rattle.record_grammar.proofs.octets.less_one.Reads as less-one-reads
 
 returns : tie.Need-returns
 unfolding spacedOne
 returns c =
     simp
     (eq-eqb _ _ (c .if1 .taken))
-
-less-one-requires : tie.Need-less-one-requires
-less-one-requires c κs = search needs
 
 returns-2 : tie.Need-returns-2
 unfolding spacedOne
@@ -25,4 +19,4 @@ returns-2 c =
     )
 
 pub spaced-one-spec : {M : Type 1} → statement M
-spaced-one-spec = tie.close (tie.spec returns less-one-requires returns-2)
+spaced-one-spec = tie.close (tie.spec returns (λ c κs. search needs) returns-2)

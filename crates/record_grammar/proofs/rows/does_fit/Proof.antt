@@ -3,16 +3,6 @@ use borrow.Author.Tests.{eq-eqb, ne-eqb}
 use borrow.Author.Needs.{needs}
 use Rattle.record_grammar.proofs.rows.does_fit.Statement.{statement}
 use Rattle.record_grammar.proofs.rows.does_fit.Tie as tie
-use Rattle.record_grammar.proofs.rows.does_fit.Reads as reads
-use Rattle.record_grammar.proofs.rows.does_fit.Lts as lts
-use Rattle.record_grammar.proofs.rows.does_hold.Reads as does-hold-reads
-use Rattle.record_grammar.proofs.rows.element_fits.Reads as element-fits-reads
-
-element-fits-requires : tie.Need-element-fits-requires
-element-fits-requires c κs = search needs
-
-does-hold-requires : tie.Need-does-hold-requires
-does-hold-requires c κs = search needs
 
 returns : tie.Need-returns
 unfolding fits
@@ -28,4 +18,4 @@ returns-3 c = simp (ne-eqb _ _ (c .if1 .left))
 
 pub does-fit-spec : {M : Type 1} → statement M
 does-fit-spec =
-    tie.close (tie.spec element-fits-requires does-hold-requires returns returns-2 returns-3)
+    tie.close (tie.spec (λ c κs. search needs) (λ c κs. search needs) returns returns-2 returns-3)

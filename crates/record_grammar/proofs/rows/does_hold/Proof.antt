@@ -3,95 +3,50 @@ use borrow.Author.Tests.{eq-eqb, ne-eqb}
 use borrow.Author.Needs.{needs}
 use Rattle.record_grammar.proofs.rows.does_hold.Statement.{statement}
 use Rattle.record_grammar.proofs.rows.does_hold.Tie as tie
-use Rattle.record_grammar.proofs.rows.does_hold.Reads as reads
-use Rattle.record_grammar.proofs.rows.does_hold.Lts as lts
-use Rattle.record_grammar.proofs.rows.is_all_digits.Reads as is-all-digits-reads
-use Rattle.record_grammar.proofs.rows.is_channelled.Reads as is-channelled-reads
-use Rattle.record_grammar.proofs.rows.is_counted.Reads as is-counted-reads
-use Rattle.record_grammar.proofs.rows.is_lettered.Reads as is-lettered-reads
-use Rattle.record_grammar.proofs.rows.is_noted.Reads as is-noted-reads
-use Rattle.record_grammar.proofs.rows.is_numbered.Reads as is-numbered-reads
-use Rattle.record_grammar.proofs.rows.is_spanned.Reads as is-spanned-reads
-
-is-numbered-requires : tie.Need-is-numbered-requires
-is-numbered-requires c κs = search needs
 
 returns : tie.Need-returns
 unfolding holds
 returns c = simp (eq-eqb _ _ (c .before .if1 .taken), ← c .is-numbered .ensures)
 
-is-numbered-requires-2 : tie.Need-is-numbered-requires-2
-is-numbered-requires-2 c κs = search needs
-
 returns-2 : tie.Need-returns-2
 unfolding holds
 returns-2 c = simp (ne-eqb _ _ (c .before .before .before .if1 .left), eq-eqb _ _ (c .before .if2 .taken), ← c .is-numbered2 .ensures)
-
-is-numbered-requires-3 : tie.Need-is-numbered-requires-3
-is-numbered-requires-3 c κs = search needs
 
 returns-3 : tie.Need-returns-3
 unfolding holds
 returns-3 c = simp (ne-eqb _ _ (c .before .before .before .before .before .if1 .left), ne-eqb _ _ (c .before .before .before .if2 .left), eq-eqb _ _ (c .before .if3 .taken), ← c .is-numbered3 .ensures)
 
-is-lettered-requires : tie.Need-is-lettered-requires
-is-lettered-requires c κs = search needs
-
 returns-4 : tie.Need-returns-4
 unfolding holds
 returns-4 c = simp (ne-eqb _ _ (c .before .before .before .before .before .before .before .if1 .left), ne-eqb _ _ (c .before .before .before .before .before .if2 .left), ne-eqb _ _ (c .before .before .before .if3 .left), eq-eqb _ _ (c .before .if4 .taken), ← c .is-lettered .ensures)
-
-is-spanned-requires : tie.Need-is-spanned-requires
-is-spanned-requires c κs = search needs
 
 returns-5 : tie.Need-returns-5
 unfolding holds
 returns-5 c = simp (ne-eqb _ _ (c .before .before .before .before .before .before .before .before .before .if1 .left), ne-eqb _ _ (c .before .before .before .before .before .before .before .if2 .left), ne-eqb _ _ (c .before .before .before .before .before .if3 .left), ne-eqb _ _ (c .before .before .before .if4 .left), eq-eqb _ _ (c .before .if5 .taken), ← c .is-spanned .ensures)
 
-is-numbered-requires-4 : tie.Need-is-numbered-requires-4
-is-numbered-requires-4 c κs = search needs
-
 returns-6 : tie.Need-returns-6
 unfolding holds
 returns-6 c = simp (ne-eqb _ _ (c .before .before .before .before .before .before .before .before .before .before .before .if1 .left), ne-eqb _ _ (c .before .before .before .before .before .before .before .before .before .if2 .left), ne-eqb _ _ (c .before .before .before .before .before .before .before .if3 .left), ne-eqb _ _ (c .before .before .before .before .before .if4 .left), ne-eqb _ _ (c .before .before .before .if5 .left), eq-eqb _ _ (c .before .if6 .taken), ← c .is-numbered4 .ensures)
-
-is-counted-requires : tie.Need-is-counted-requires
-is-counted-requires c κs = search needs
 
 returns-7 : tie.Need-returns-7
 unfolding holds
 returns-7 c = simp (ne-eqb _ _ (c .before .before .before .before .before .before .before .before .before .before .before .before .before .if1 .left), ne-eqb _ _ (c .before .before .before .before .before .before .before .before .before .before .before .if2 .left), ne-eqb _ _ (c .before .before .before .before .before .before .before .before .before .if3 .left), ne-eqb _ _ (c .before .before .before .before .before .before .before .if4 .left), ne-eqb _ _ (c .before .before .before .before .before .if5 .left), ne-eqb _ _ (c .before .before .before .if6 .left), eq-eqb _ _ (c .before .if7 .taken), ← c .is-counted .ensures)
 
-is-counted-requires-2 : tie.Need-is-counted-requires-2
-is-counted-requires-2 c κs = search needs
-
 returns-8 : tie.Need-returns-8
 unfolding holds
 returns-8 c = simp (ne-eqb _ _ (c .before .before .before .before .before .before .before .before .before .before .before .before .before .before .before .if1 .left), ne-eqb _ _ (c .before .before .before .before .before .before .before .before .before .before .before .before .before .if2 .left), ne-eqb _ _ (c .before .before .before .before .before .before .before .before .before .before .before .if3 .left), ne-eqb _ _ (c .before .before .before .before .before .before .before .before .before .if4 .left), ne-eqb _ _ (c .before .before .before .before .before .before .before .if5 .left), ne-eqb _ _ (c .before .before .before .before .before .if6 .left), ne-eqb _ _ (c .before .before .before .if7 .left), eq-eqb _ _ (c .before .if8 .taken), ← c .is-counted2 .ensures)
-
-is-channelled-requires : tie.Need-is-channelled-requires
-is-channelled-requires c κs = search needs
 
 returns-9 : tie.Need-returns-9
 unfolding holds
 returns-9 c = simp (ne-eqb _ _ (c .before .before .before .before .before .before .before .before .before .before .before .before .before .before .before .before .before .if1 .left), ne-eqb _ _ (c .before .before .before .before .before .before .before .before .before .before .before .before .before .before .before .if2 .left), ne-eqb _ _ (c .before .before .before .before .before .before .before .before .before .before .before .before .before .if3 .left), ne-eqb _ _ (c .before .before .before .before .before .before .before .before .before .before .before .if4 .left), ne-eqb _ _ (c .before .before .before .before .before .before .before .before .before .if5 .left), ne-eqb _ _ (c .before .before .before .before .before .before .before .if6 .left), ne-eqb _ _ (c .before .before .before .before .before .if7 .left), ne-eqb _ _ (c .before .before .before .if8 .left), eq-eqb _ _ (c .before .if9 .taken), ← c .is-channelled .ensures)
 
-is-all-digits-requires : tie.Need-is-all-digits-requires
-is-all-digits-requires c κs = search needs
-
 returns-10 : tie.Need-returns-10
 unfolding holds
 returns-10 c = simp (ne-eqb _ _ (c .before .before .before .before .before .before .before .before .before .before .before .before .before .before .before .before .before .before .before .if1 .left), ne-eqb _ _ (c .before .before .before .before .before .before .before .before .before .before .before .before .before .before .before .before .before .if2 .left), ne-eqb _ _ (c .before .before .before .before .before .before .before .before .before .before .before .before .before .before .before .if3 .left), ne-eqb _ _ (c .before .before .before .before .before .before .before .before .before .before .before .before .before .if4 .left), ne-eqb _ _ (c .before .before .before .before .before .before .before .before .before .before .before .if5 .left), ne-eqb _ _ (c .before .before .before .before .before .before .before .before .before .if6 .left), ne-eqb _ _ (c .before .before .before .before .before .before .before .if7 .left), ne-eqb _ _ (c .before .before .before .before .before .if8 .left), ne-eqb _ _ (c .before .before .before .if9 .left), eq-eqb _ _ (c .before .if10 .taken), ← c .is-all-digits .ensures)
 
-is-channelled-requires-2 : tie.Need-is-channelled-requires-2
-is-channelled-requires-2 c κs = search needs
-
 returns-11 : tie.Need-returns-11
 unfolding holds
 returns-11 c = simp (ne-eqb _ _ (c .before .before .before .before .before .before .before .before .before .before .before .before .before .before .before .before .before .before .before .before .before .if1 .left), ne-eqb _ _ (c .before .before .before .before .before .before .before .before .before .before .before .before .before .before .before .before .before .before .before .if2 .left), ne-eqb _ _ (c .before .before .before .before .before .before .before .before .before .before .before .before .before .before .before .before .before .if3 .left), ne-eqb _ _ (c .before .before .before .before .before .before .before .before .before .before .before .before .before .before .before .if4 .left), ne-eqb _ _ (c .before .before .before .before .before .before .before .before .before .before .before .before .before .if5 .left), ne-eqb _ _ (c .before .before .before .before .before .before .before .before .before .before .before .if6 .left), ne-eqb _ _ (c .before .before .before .before .before .before .before .before .before .if7 .left), ne-eqb _ _ (c .before .before .before .before .before .before .before .if8 .left), ne-eqb _ _ (c .before .before .before .before .before .if9 .left), ne-eqb _ _ (c .before .before .before .if10 .left), eq-eqb _ _ (c .before .if11 .taken), ← c .is-channelled2 .ensures)
-
-is-noted-requires : tie.Need-is-noted-requires
-is-noted-requires c κs = search needs
 
 returns-12 : tie.Need-returns-12
 unfolding holds
@@ -104,29 +59,4 @@ returns-13 c = simp (ne-eqb _ _ (c .before .before .before .before .before .befo
 pub does-hold-spec : {M : Type 1} → statement M
 does-hold-spec =
     tie.close
-    (tie.spec
-    is-numbered-requires
-    returns
-    is-numbered-requires-2
-    returns-2
-    is-numbered-requires-3
-    returns-3
-    is-lettered-requires
-    returns-4
-    is-spanned-requires
-    returns-5
-    is-numbered-requires-4
-    returns-6
-    is-counted-requires
-    returns-7
-    is-counted-requires-2
-    returns-8
-    is-channelled-requires
-    returns-9
-    is-all-digits-requires
-    returns-10
-    is-channelled-requires-2
-    returns-11
-    is-noted-requires
-    returns-12
-    returns-13)
+    (tie.spec (λ c κs. search needs) returns (λ c κs. search needs) returns-2 (λ c κs. search needs) returns-3 (λ c κs. search needs) returns-4 (λ c κs. search needs) returns-5 (λ c κs. search needs) returns-6 (λ c κs. search needs) returns-7 (λ c κs. search needs) returns-8 (λ c κs. search needs) returns-9 (λ c κs. search needs) returns-10 (λ c κs. search needs) returns-11 (λ c κs. search needs) returns-12 returns-13)

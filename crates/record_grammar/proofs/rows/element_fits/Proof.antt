@@ -3,12 +3,6 @@ use borrow.Author.Tests.{eq-eqb, le-ltb, lt-ltb, ne-eqb}
 use borrow.Author.Needs.{needs}
 use Rattle.record_grammar.proofs.rows.element_fits.Statement.{statement}
 use Rattle.record_grammar.proofs.rows.element_fits.Tie as tie
-use Rattle.record_grammar.proofs.rows.element_fits.Reads as reads
-use Rattle.record_grammar.proofs.rows.element_fits.Lts as lts
-use Rattle.record_grammar.proofs.rows.element_kept.Reads as element-kept-reads
-
-add-result : tie.Need-add-result
-add-result c = search needs
 
 returns : tie.Need-returns
 unfolding elementFits
@@ -18,13 +12,10 @@ returns-2 : tie.Need-returns-2
 unfolding elementFits
 returns-2 c = simp (eq-eqb _ _ (c .before .before .if1 .taken), le-ltb _ _ (c .if2 .left))
 
-element-kept-requires : tie.Need-element-kept-requires
-element-kept-requires c κs = search needs
-
 returns-3 : tie.Need-returns-3
 unfolding elementFits
 returns-3 c = simp (ne-eqb _ _ (c .before .before .if1 .left), ← c .before .element-kept .ensures)
 
 pub element-fits-spec : {M : Type 1} → statement M
 element-fits-spec =
-    tie.close (tie.spec add-result returns returns-2 element-kept-requires returns-3)
+    tie.close (tie.spec (λ c. search needs) returns returns-2 (λ c κs. search needs) returns-3)

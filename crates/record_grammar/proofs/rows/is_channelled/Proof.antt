@@ -3,12 +3,6 @@ use borrow.Author.Tests.{eq-eqb, ne-eqb}
 use borrow.Author.Needs.{needs}
 use Rattle.record_grammar.proofs.rows.is_channelled.Statement.{statement}
 use Rattle.record_grammar.proofs.rows.is_channelled.Tie as tie
-use Rattle.record_grammar.proofs.rows.is_channelled.Reads as reads
-use Rattle.record_grammar.proofs.rows.is_channelled.Lts as lts
-use Rattle.record_grammar.proofs.octets.characters_fit.Reads as characters-fit-reads
-
-characters-fit-requires : tie.Need-characters-fit-requires
-characters-fit-requires c κs = search needs
 
 returns : tie.Need-returns
 unfolding channelled
@@ -19,4 +13,4 @@ unfolding channelled
 returns-2 c = simp (ne-eqb _ _ (c .if1 .left))
 
 pub is-channelled-spec : {M : Type 1} → statement M
-is-channelled-spec = tie.close (tie.spec characters-fit-requires returns returns-2)
+is-channelled-spec = tie.close (tie.spec (λ c κs. search needs) returns returns-2)

@@ -3,11 +3,6 @@ use borrow.Author.Tests.{eq-eqb, le-ltb, lt-ltb, ne-eqb}
 use borrow.Author.Needs.{needs}
 use Rattle.record_grammar.proofs.rows.is_counted.Statement.{statement}
 use Rattle.record_grammar.proofs.rows.is_counted.Tie as tie
-use Rattle.record_grammar.proofs.rows.is_counted.Reads as reads
-use Rattle.record_grammar.proofs.rows.is_counted.Lts as lts
-
-add-result : tie.Need-add-result
-add-result c = search needs
 
 returns : tie.Need-returns
 unfolding counted
@@ -22,4 +17,4 @@ unfolding counted
 returns-3 c = simp (ne-eqb _ _ (c .if1 .left))
 
 pub is-counted-spec : {M : Type 1} → statement M
-is-counted-spec = tie.close (tie.spec add-result returns returns-2 returns-3)
+is-counted-spec = tie.close (tie.spec (λ c. search needs) returns returns-2 returns-3)

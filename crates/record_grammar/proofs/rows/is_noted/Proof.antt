@@ -2,8 +2,6 @@ use Rattle.record_grammar.specs.Rows.{noted}
 use borrow.Author.Tests.{eq-eqb, ne-eqb}
 use Rattle.record_grammar.proofs.rows.is_noted.Statement.{statement}
 use Rattle.record_grammar.proofs.rows.is_noted.Tie as tie
-use Rattle.record_grammar.proofs.rows.is_noted.Reads as reads
-use Rattle.record_grammar.proofs.rows.is_noted.Lts as lts
 
 returns : tie.Need-returns
 unfolding noted

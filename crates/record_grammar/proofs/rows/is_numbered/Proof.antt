@@ -3,12 +3,6 @@ use borrow.Author.Tests.{eq-eqb, le-leb, lt-leb, ne-eqb}
 use borrow.Author.Needs.{needs}
 use Rattle.record_grammar.proofs.rows.is_numbered.Statement.{statement}
 use Rattle.record_grammar.proofs.rows.is_numbered.Tie as tie
-use Rattle.record_grammar.proofs.rows.is_numbered.Reads as reads
-use Rattle.record_grammar.proofs.rows.is_numbered.Lts as lts
-use Rattle.record_grammar.proofs.octets.is_within.Reads as is-within-reads
-
-is-within-requires : tie.Need-is-within-requires
-is-within-requires c κs = search needs
 
 returns : tie.Need-returns
 unfolding numbered
@@ -23,4 +17,4 @@ unfolding numbered
 returns-3 c = simp (ne-eqb _ _ (c .before .before .if1 .left), lt-leb _ _ (c .if2 .left))
 
 pub is-numbered-spec : {M : Type 1} → statement M
-is-numbered-spec = tie.close (tie.spec is-within-requires returns returns-2 returns-3)
+is-numbered-spec = tie.close (tie.spec (λ c κs. search needs) returns returns-2 returns-3)

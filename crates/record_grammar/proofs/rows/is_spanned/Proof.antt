@@ -7,12 +7,6 @@ use Rattle.record_grammar.proofs.RowLaws.{room}
 use borrow.Author.Needs.{needs}
 use Rattle.record_grammar.proofs.rows.is_spanned.Statement.{statement}
 use Rattle.record_grammar.proofs.rows.is_spanned.Tie as tie
-use Rattle.record_grammar.proofs.rows.is_spanned.Reads as reads
-use Rattle.record_grammar.proofs.rows.is_spanned.Lts as lts
-use Rattle.record_grammar.proofs.octets.is_within.Reads as is-within-reads
-
-is-within-requires : tie.Need-is-within-requires
-is-within-requires c κs = search needs
 
 returns : tie.Need-returns
 unfolding spanned
@@ -32,4 +26,4 @@ unfolding spanned
 returns-3 c = simp (← c .before .is-within .ensures, c .if1 .left)
 
 pub is-spanned-spec : {M : Type 1} → statement M
-is-spanned-spec = tie.close (tie.spec is-within-requires returns returns-2 returns-3)
+is-spanned-spec = tie.close (tie.spec (λ c κs. search needs) returns returns-2 returns-3)

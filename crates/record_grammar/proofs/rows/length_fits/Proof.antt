@@ -3,12 +3,6 @@ use borrow.Author.Tests.{eq-eqb, ne-eqb}
 use borrow.Author.Needs.{needs}
 use Rattle.record_grammar.proofs.rows.length_fits.Statement.{statement}
 use Rattle.record_grammar.proofs.rows.length_fits.Tie as tie
-use Rattle.record_grammar.proofs.rows.length_fits.Reads as reads
-use Rattle.record_grammar.proofs.rows.length_fits.Lts as lts
-use Rattle.record_grammar.proofs.octets.is_within.Reads as is-within-reads
-
-is-within-requires : tie.Need-is-within-requires
-is-within-requires c κs = search needs
 
 returns : tie.Need-returns
 unfolding lengthFits
@@ -19,4 +13,4 @@ unfolding lengthFits
 returns-2 c = simp (ne-eqb _ _ (c .before .before .if1 .left))
 
 pub length-fits-spec : {M : Type 1} → statement M
-length-fits-spec = tie.close (tie.spec is-within-requires returns returns-2)
+length-fits-spec = tie.close (tie.spec (λ c κs. search needs) returns returns-2)

@@ -2,33 +2,6 @@ use Rattle.record_grammar.specs.Rows.{rowAt}
 use borrow.Author.Needs.{needs}
 use Rattle.record_grammar.proofs.rows.row_at.Statement.{statement}
 use Rattle.record_grammar.proofs.rows.row_at.Tie as tie
-use Rattle.record_grammar.proofs.rows.row_at.Reads as reads
-use Rattle.record_grammar.proofs.rows.row_at.Lts as lts
-use Rattle.record_grammar.proofs.rows.row_word.Reads as row-word-reads
-
-row-word-requires : tie.Need-row-word-requires
-row-word-requires c κs = search needs
-
-row-word-requires-2 : tie.Need-row-word-requires-2
-row-word-requires-2 c κs = search needs
-
-row-word-requires-3 : tie.Need-row-word-requires-3
-row-word-requires-3 c κs = search needs
-
-row-word-requires-4 : tie.Need-row-word-requires-4
-row-word-requires-4 c κs = search needs
-
-row-word-requires-5 : tie.Need-row-word-requires-5
-row-word-requires-5 c κs = search needs
-
-row-word-requires-6 : tie.Need-row-word-requires-6
-row-word-requires-6 c κs = search needs
-
-row-word-requires-7 : tie.Need-row-word-requires-7
-row-word-requires-7 c κs = search needs
-
-row-word-requires-8 : tie.Need-row-word-requires-8
-row-word-requires-8 c κs = search needs
 
 returns : tie.Need-returns
 unfolding rowAt
@@ -37,13 +10,4 @@ returns c = rw (c .before .before .before .before .before .before .before .row-w
 pub row-at-spec : {M : Type 1} → statement M
 row-at-spec =
     tie.close
-    (tie.spec
-    row-word-requires
-    row-word-requires-2
-    row-word-requires-3
-    row-word-requires-4
-    row-word-requires-5
-    row-word-requires-6
-    row-word-requires-7
-    row-word-requires-8
-    returns)
+    (tie.spec (λ c κs. search needs) (λ c κs. search needs) (λ c κs. search needs) (λ c κs. search needs) (λ c κs. search needs) (λ c κs. search needs) (λ c κs. search needs) (λ c κs. search needs) returns)

@@ -3,20 +3,6 @@ use Rattle.record_grammar.proofs.RowLaws.{row-in, row-out}
 use borrow.Author.Needs.{needs}
 use Rattle.record_grammar.proofs.rows.row_word.Statement.{statement}
 use Rattle.record_grammar.proofs.rows.row_word.Tie as tie
-use Rattle.record_grammar.proofs.rows.row_word.Reads as reads
-use Rattle.record_grammar.proofs.rows.row_word.Lts as lts
-
-mul-i : tie.Need-mul-i
-mul-i c = search needs
-
-add-i : tie.Need-add-i
-add-i c = search needs
-
-mul-result : tie.Need-mul-result
-mul-result c = search needs
-
-shared-slice-read-result : tie.Need-shared-slice-read-result
-shared-slice-read-result c = search needs
 
 returns : tie.Need-returns
 returns c = row-in _ (c .before .before .before .args .k) (c .before .before .before .args .j)
@@ -30,4 +16,4 @@ returns-3 c = row-out _ (c .before .args .k) (c .before .args .j) (omega (arith,
 pub row-word-spec : {M : Type 1} → statement M
 row-word-spec =
     tie.close
-    (tie.spec mul-i add-i mul-result shared-slice-read-result returns returns-2 returns-3)
+    (tie.spec (λ c. search needs) (λ c. search needs) (λ c. search needs) (λ c. search needs) returns returns-2 returns-3)

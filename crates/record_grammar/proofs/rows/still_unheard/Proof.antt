@@ -2,8 +2,6 @@ use Rattle.record_grammar.specs.Rows.{unheard}
 use borrow.Author.Tests.{eq-eqb, ne-eqb}
 use Rattle.record_grammar.proofs.rows.still_unheard.Statement.{statement}
 use Rattle.record_grammar.proofs.rows.still_unheard.Tie as tie
-use Rattle.record_grammar.proofs.rows.still_unheard.Reads as reads
-use Rattle.record_grammar.proofs.rows.still_unheard.Lts as lts
 
 returns : tie.Need-returns
 unfolding unheard
