@@ -1,44 +1,76 @@
 -- A date and time from its six numbers: one read after another, or all out of two pulls.
 use mathlib.Core.Path.{_≡_, refl, _∙_}
-use mathlib.Core.List.{List}
+use mathlib.Core.List.{List, [], _∷_}
 use Prim.Native.Nat.{ℕ, _+_, _/_, _%_, _^_, _<_}
 use native.Mathlib.Omega.{arith}
 use Rattle.x691.specs.Types.{extent}
 use Rattle.x691.specs.Encoding.{width, widthIn}
-use Rattle.atn.specs.Reading.{flags}
+use Rattle.atn.specs.Reading.{Rec, rec, word, flags}
 use Rattle.cursor.specs.declared.place.Cursor.{Cursor}
 use Rattle.cursor.specs.declared.place.Got.{Got}
 use Rattle.cursor.specs.Place.{put, Inside, Pulls}
+use Rattle.records.specs.Told.{Told}
+use Rattle.records.proofs.Telling.{told-then}
 use Rattle.field_ranges.specs.Ranges.{rowAt}
 use Rattle.field_ranges.specs.Ends.{lowest, highest}
 use Rattle.ranged_numbers.specs.Numbers.{FromLowest, Ranged}
 use Rattle.cursor.proofs.FormatLaws.{allRead, takes-plain, fields-must, fields-last}
 use Rattle.ranged_numbers.proofs.Split.{Stands, pull-went, stands-first, stands-last, told-at, ranged-at, takes-inside}
+use Rattle.date_times.specs.declared.DateTime.{DateTime}
 use Rattle.date_times.specs.declared.DateTimeAt.{DateTimeAt}
-use Rattle.date_times.specs.Times.{DateTimes}
+use Rattle.date_times.specs.Times.{DateTimes, dateTimeRecs}
+use Rattle.date_times.proofs.Places.{takes-told, Behind, number-inside, number-behind}
 
--- each number, and where it starts
-abbrev time : Got → ℕ → Got → ℕ → Got → ℕ → Got → ℕ → Got → ℕ → Got → ℕ → DateTimeAt
-time year a month b day d hours e minutes f seconds g =
+abbrev time : Cursor → Got → Got → Got → Got → Got → Got → DateTimeAt
+time c year month day hours minutes seconds =
     record {
-      time = record { year = year .v; «year_at» = a; month = month .v; «month_at» = b; day = day .v; «day_at» = d; hours = hours .v; «hours_at» = e; minutes = minutes .v; «minutes_at» = f; seconds = seconds .v; «seconds_at» = g };
+      time = record { at = c .at; year = year .v; month = month .v; day = day .v; hours = hours .v; minutes = minutes .v; seconds = seconds .v };
       c = seconds .c;
     }
 
-pub in-a-row : {s : List ℕ} {c : Cursor} (year month day hours minutes seconds : Got)
-    → Ranged 1 s c year → Ranged 2 s (year .c) month → Ranged 3 s (month .c) day → Ranged 4 s (day .c) hours → Ranged 5 s (hours .c) minutes → Ranged 5 s (minutes .c) seconds
-    → DateTimes s c (time year (c .at) month (year .c .at) day (month .c .at) hours (day .c .at) minutes (hours .c .at) seconds (minutes .c .at))
-unfolding lowest highest flags allRead
-in-a-row year month day hours minutes seconds a b d e f g =
-    record {
-      takes =
-          takes-plain refl refl
-          (fields-must (takes-plain refl refl (fields-must (a .number 11) (fields-must (b .number 12) (fields-last (d .number 13)))))
-          (fields-last (takes-plain refl refl (fields-must (e .number 14) (fields-must (f .number 15) (fields-last (g .number 16)))))));
-    }
+-- the records, with the place of each number behind the year
+abbrev toldAt : DateTime → ℕ → ℕ → ℕ → ℕ → ℕ → ℕ → List Rec
+toldAt v b d e f g n =
+    rec 11 n (v .year) 0 (v .at) ∷ rec 12 n (v .month) 0 b ∷ rec 13 n (v .day) 0 d ∷ rec 14 n (v .hours) 0 e ∷ rec 15 n (v .minutes) 0 f ∷ rec 16 n (v .seconds) 0 g ∷ []
+
+module _ {s : List ℕ} {c : Cursor} (year month day hours minutes seconds : Got) (fits : c .end < 2 ^ 64)
+    (a : Ranged 1 s c year) (b : Ranged 2 s (year .c) month) (d : Ranged 3 s (month .c) day) (e : Ranged 4 s (day .c) hours) (f : Ranged 5 s (hours .c) minutes) (g : Ranged 5 s (minutes .c) seconds) where
+  -- where the reading went on, each number stands behind the bits of those before
+  same-places : Inside s c → seconds .c .why ≡ 0 → (n : ℕ) → toldAt (time c year month day hours minutes seconds .time) (year .c .at) (month .c .at) (day .c .at) (hours .c .at) (minutes .c .at) n ≡ dateTimeRecs (time c year month day hours minutes seconds .time) n
+  unfolding lowest highest extent width widthIn word
+  same-places i z n =
+      let i₁ = number-inside 1 a i in
+      let i₂ = number-inside 2 b i₁ in
+      let i₃ = number-inside 3 d i₂ in
+      let i₄ = number-inside 4 e i₃ in
+      let i₅ = number-inside 5 f i₄ in
+      let z₆ : Behind (minutes .c) 6 (seconds .c) = number-behind 5 g i₅ z in
+      let z₅ : Behind (hours .c) 6 (minutes .c) = number-behind 5 f i₄ (z₆ .going) in
+      let z₄ : Behind (day .c) 5 (hours .c) = number-behind 4 e i₃ (z₅ .going) in
+      let z₃ : Behind (month .c) 5 (day .c) = number-behind 3 d i₂ (z₄ .going) in
+      let z₂ : Behind (year .c) 4 (month .c) = number-behind 2 b i₁ (z₃ .going) in
+      let z₁ : Behind c 7 (year .c) = number-behind 1 a i (z₂ .going) in
+      let l : minutes .c .at < 2 ^ 64 = omega (arith, i₅ .0, z₅ .same, z₄ .same, z₃ .same, z₂ .same, z₁ .same) in
+      let w₁ : year .c .at ≡ word (c .at + 7) = omega (arith, z₁ .to, z₂ .to, z₃ .to, z₄ .to, z₅ .to) in
+      let w₂ : month .c .at ≡ word (c .at + 11) = omega (arith, z₁ .to, z₂ .to, z₃ .to, z₄ .to, z₅ .to) in
+      let w₃ : day .c .at ≡ word (c .at + 16) = omega (arith, z₁ .to, z₂ .to, z₃ .to, z₄ .to, z₅ .to) in
+      let w₄ : hours .c .at ≡ word (c .at + 21) = omega (arith, z₁ .to, z₂ .to, z₃ .to, z₄ .to, z₅ .to) in
+      let w₅ : minutes .c .at ≡ word (c .at + 27) = omega (arith, z₁ .to, z₂ .to, z₃ .to, z₄ .to, z₅ .to) in
+      rw (w₁, w₂, w₃, w₄, w₅)
+
+  pub in-a-row : DateTimes s c (time c year month day hours minutes seconds)
+  unfolding lowest highest flags allRead
+  in-a-row =
+      record {
+        takes =
+            takes-told (toldAt (time c year month day hours minutes seconds .time) (year .c .at) (month .c .at) (day .c .at) (hours .c .at) (minutes .c .at)) (dateTimeRecs (time c year month day hours minutes seconds .time)) same-places
+            (takes-plain refl refl
+            (fields-must (takes-plain refl refl (fields-must (a .number 11) (fields-must (b .number 12) (fields-last (d .number 13)))))
+            (fields-last (takes-plain refl refl (fields-must (e .number 14) (fields-must (f .number 15) (fields-last (g .number 16))))))));
+      }
 
 -- the numbers are told by the cursor behind the second pull, which takes the marks of one after another
-pub at-once : {s : List ℕ} {c : Cursor} {first second : Got} (year month day hours minutes seconds : Got) {a₁ a₂ a₃ a₅ : ℕ}
+pub at-once : {s : List ℕ} {c : Cursor} {first second : Got} (year month day hours minutes seconds : Got)
     → Pulls s c 21 first → first .c .why ≡ 0 → Pulls s (first .c) 12 second → second .c .why ≡ 0
     → FromLowest (rowAt 1) (second .c) (first .v / 16384) year
     → FromLowest (rowAt 2) (year .c) (first .v / 1024 % 16) month
@@ -46,30 +78,32 @@ pub at-once : {s : List ℕ} {c : Cursor} {first second : Got} (year month day h
     → FromLowest (rowAt 4) (day .c) (first .v % 32) hours
     → FromLowest (rowAt 5) (hours .c) (second .v / 64) minutes
     → FromLowest (rowAt 5) (minutes .c) (second .v % 64) seconds
-    → c .end < 2 ^ 64 → a₁ ≡ (c .at + 7) % 2 ^ 64 → a₂ ≡ (c .at + 11) % 2 ^ 64 → a₃ ≡ (c .at + 16) % 2 ^ 64 → a₅ ≡ (first .c .at + 6) % 2 ^ 64
-    → DateTimes s c (time year (c .at) month a₁ day a₂ hours a₃ minutes (first .c .at) seconds a₅)
+    → c .end < 2 ^ 64
+    → DateTimes s c (time c year month day hours minutes seconds)
 unfolding extent width widthIn
-at-once {s} {c} {first} {second} year month day hours minutes seconds {a₁} {a₂} {a₃} {a₅} p h q k y m d u n z fits e₁ e₂ e₃ e₅ = record { takes = takes-inside λ i. go i .takes }
+at-once {s} {c} {first} {second} year month day hours minutes seconds p h q k y m d u n z fits = record { takes = takes-inside λ i. go i .takes }
   where
-    go : Inside s c → DateTimes s c (time year (c .at) month a₁ day a₂ hours a₃ minutes (first .c .at) seconds a₅)
+    go : Inside s c → DateTimes s c (time c year month day hours minutes seconds)
     go i =
         let f = pull-went p h i in
         let g = pull-went q k (rw (f .to) (f .stands .room, i .1)) in
         let a = f .stands in
         let b : Stands s (c .end) (c .at + 21) 12 (second .v) = rw (f .to) at (g .stands) in
         let to : second .c ≡ put c (c .at + 21 + 12) 0 (c .marks) = g .to ∙ rw (f .to) in
-        let l = f .stands .room in
-        let l₂ = b .room in
-        let q₁ : a₁ ≡ c .at + 7 = omega arith in
-        let q₂ : a₂ ≡ c .at + 11 = omega arith in
-        let q₃ : a₃ ≡ c .at + 16 = omega arith in
-        let q₄ : first .c .at ≡ c .at + 21 = rw (f .to) refl in
-        let q₅ : a₅ ≡ c .at + 21 + 6 = omega arith in
-        rw (q₁, q₂, q₃, q₅, q₄, told-at c (told-at c (told-at c (told-at c (told-at c (told-at c to y) m) d) u) n) z)
-        (in-a-row _ _ _ _ _ _
+        rw (told-at c (told-at c (told-at c (told-at c (told-at c (told-at c to y) m) d) u) n) z)
+        (in-a-row _ _ _ _ _ _ fits
         (ranged-at c (c .at + 7) (f .from) refl y (stands-first 7 14 a) refl)
         (ranged-at c (c .at + 11) refl refl m (stands-last 7 4 (stands-first 11 10 a)) (omega arith))
         (ranged-at c (c .at + 16) refl refl d (stands-last 11 5 (stands-first 16 5 a)) (omega arith))
         (ranged-at c (c .at + 21) refl refl u (stands-last 16 5 a) (omega arith))
         (ranged-at c (c .at + 21 + 6) refl refl n (stands-first 6 6 b) refl)
         (ranged-at c (c .at + 21 + 12) refl refl z (stands-last 6 6 b) (omega arith)))
+
+-- and told, each number at its place
+pub told-time : {w w₁ w₂ w₃ w₄ w₅ w₆ : List ℕ} {n n₁ n₂ n₃ n₄ n₅ n₆ : ℕ} {v : DateTime} {b d e f g : ℕ}
+    → Told 1 w w₁ n n₁ (rec 11 0 (v .year) 0 (v .at) ∷ []) → Told 1 w₁ w₂ n₁ n₂ (rec 12 0 (v .month) 0 b ∷ []) → Told 1 w₂ w₃ n₂ n₃ (rec 13 0 (v .day) 0 d ∷ [])
+    → Told 1 w₃ w₄ n₃ n₄ (rec 14 0 (v .hours) 0 e ∷ []) → Told 1 w₄ w₅ n₄ n₅ (rec 15 0 (v .minutes) 0 f ∷ []) → Told 1 w₅ w₆ n₅ n₆ (rec 16 0 (v .seconds) 0 g ∷ [])
+    → b ≡ (v .at + 7) % 2 ^ 64 → d ≡ (v .at + 11) % 2 ^ 64 → e ≡ (v .at + 16) % 2 ^ 64 → f ≡ (v .at + 21) % 2 ^ 64 → g ≡ (v .at + 27) % 2 ^ 64
+    → Told 6 w w₆ n n₆ (dateTimeRecs v 0)
+unfolding word
+told-time a b d e f g p₁ p₂ p₃ p₄ p₅ = told-then (told-then (told-then (told-then (told-then a (rw p₁ at b)) (rw p₂ at d)) (rw p₃ at e)) (rw p₄ at f)) (rw p₅ at g)

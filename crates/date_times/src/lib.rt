@@ -15,20 +15,15 @@ use records::emit;
 
 mod numbers; // numbers.rt: the six numbers one by one
 
-// Each number, and where it starts.
+// The numbers, and where the year starts: the others follow it, each behind the bits of the one before.
 pub struct DateTime {
+    pub at: usize,
     pub year: u64,
-    pub year_at: usize,
     pub month: u64,
-    pub month_at: usize,
     pub day: u64,
-    pub day_at: usize,
     pub hours: u64,
-    pub hours_at: usize,
     pub minutes: u64,
-    pub minutes_at: usize,
     pub seconds: u64,
-    pub seconds_at: usize,
 }
 
 pub struct DateTimeAt {
@@ -53,25 +48,14 @@ pub fn read_date_time(s: &[u8], c: Cursor) -> DateTimeAt
             let minutes = from_lowest(hours.c, second.v / 64, MINUTES);
             let seconds = from_lowest(minutes.c, second.v % 64, MINUTES);
             let end = seconds.c;
-            let at = c.at;
-            let month_at = std::num::wrapping_add_usize(at, 7);
-            let day_at = std::num::wrapping_add_usize(at, 11);
-            let hours_at = std::num::wrapping_add_usize(at, 16);
-            let minutes_at = d.at;
-            let seconds_at = std::num::wrapping_add_usize(minutes_at, 6);
             let time = DateTime {
+                at: c.at,
                 year: year.v,
-                year_at: at,
                 month: month.v,
-                month_at: month_at,
                 day: day.v,
-                day_at: day_at,
                 hours: hours.v,
-                hours_at: hours_at,
                 minutes: minutes.v,
-                minutes_at: minutes_at,
                 seconds: seconds.v,
-                seconds_at: seconds_at,
             };
             return DateTimeAt { time: time, c: end };
         }
@@ -84,10 +68,16 @@ pub fn tell_date_time(words: &mut [u64], n: usize, x: DateTime) -> usize
     requires { ⌜ n < 2 ^ 31 ⌝ }
     ensures { λ m. ⌜ Told 6 (now (words .entry)) (now (words .exit)) n m (dateTimeRecs x 0) ⌝ }
 {
-    let a = emit(words, n, 11, 0, x.year, 0, x.year_at);
-    let b = emit(words, a, 12, 0, x.month, 0, x.month_at);
-    let d = emit(words, b, 13, 0, x.day, 0, x.day_at);
-    let e = emit(words, d, 14, 0, x.hours, 0, x.hours_at);
-    let f = emit(words, e, 15, 0, x.minutes, 0, x.minutes_at);
-    emit(words, f, 16, 0, x.seconds, 0, x.seconds_at)
+    let at = x.at;
+    let a = emit(words, n, 11, 0, x.year, 0, at);
+    let month_at = std::num::wrapping_add_usize(at, 7);
+    let b = emit(words, a, 12, 0, x.month, 0, month_at);
+    let day_at = std::num::wrapping_add_usize(at, 11);
+    let d = emit(words, b, 13, 0, x.day, 0, day_at);
+    let hours_at = std::num::wrapping_add_usize(at, 16);
+    let e = emit(words, d, 14, 0, x.hours, 0, hours_at);
+    let minutes_at = std::num::wrapping_add_usize(at, 21);
+    let f = emit(words, e, 15, 0, x.minutes, 0, minutes_at);
+    let seconds_at = std::num::wrapping_add_usize(at, 27);
+    emit(words, f, 16, 0, x.seconds, 0, seconds_at)
 }

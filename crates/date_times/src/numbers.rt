@@ -21,18 +21,13 @@ pub fn one_by_one(s: &[u8], c: Cursor) -> DateTimeAt
     let seconds = ranged(s, minutes.c, MINUTES);
     let end = seconds.c;
     let time = DateTime {
+        at: c.at,
         year: year.v,
-        year_at: c.at,
         month: month.v,
-        month_at: year.c.at,
         day: day.v,
-        day_at: month.c.at,
         hours: hours.v,
-        hours_at: day.c.at,
         minutes: minutes.v,
-        minutes_at: hours.c.at,
         seconds: seconds.v,
-        seconds_at: minutes.c.at,
     };
     DateTimeAt { time: time, c: end }
 }

@@ -6,7 +6,7 @@ use Rattle.date_times.proofs.read_date_time.Tie as tie
 
 returns : tie.Need-returns
 returns c =
-    let seconds = c .before .before .before .before .before in
+    let seconds = c .before in
     let minutes = seconds .before .before in
     let hours = minutes .before .before in
     let day = hours .before .before in
@@ -18,10 +18,10 @@ returns c =
     let first = first-went .before .before .before in
     at-once _ _ _ _ _ _ (first .bits .ensures) (first-went .if1 .taken) (second .bits2 .ensures) (second-went .if2 .taken)
     (year .from-lowest .ensures) (month .from-lowest2 .ensures) (day .from-lowest3 .ensures) (hours .from-lowest4 .ensures) (minutes .from-lowest5 .ensures) (seconds .from-lowest6 .ensures)
-    (omega (arith, first .before .before .good)) (c .before .before .before .wrapping-add-usize .ensures) (c .before .before .wrapping-add-usize2 .ensures) (c .before .wrapping-add-usize3 .ensures) (c .wrapping-add-usize4 .ensures)
+    (omega (arith, first .before .before .good))
 
 pub read-date-time-spec : {M : Type 1} → statement M
 read-date-time-spec =
     tie.close
-    (tie.spec (λ c κs. search needs) (λ c κs. search needs) (λ c κs. search needs) (λ c κs. search needs) (λ c κs. search needs) (λ c κs. search needs) (λ c κs. search needs) (λ c κs. search needs) (λ c κs. search needs) (λ c κs. search needs) (λ c κs. search needs) (λ c κs. search needs) returns
+    (tie.spec (λ c κs. search needs) (λ c κs. search needs) (λ c κs. search needs) (λ c κs. search needs) (λ c κs. search needs) (λ c κs. search needs) (λ c κs. search needs) (λ c κs. search needs) returns
     (λ c κs. search needs) (λ c. search needs))
