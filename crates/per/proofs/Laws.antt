@@ -105,9 +105,13 @@ uint-octet s i h =
     let f : 8 - (8 * i % 8 + 8) ≡ 0 = omega arith in
     rw (within-octet s (8 * i) 8 (omega arith), e, f) (omega arith)
 
--- and behind the last they spell 0
-pub uint-behind : (s : List ℕ) (i : ℕ) → length s ≤ i → uint (bitOf s) (8 * i) 8 ≡ 0
-uint-behind s i h = let z : getD s i 0 ≡ 0 = List·getD-eq-default s 0 h in uint-octet s i (omega arith) ∙ z
+-- four octets
+pub four-octets : (s : List ℕ) (i : ℕ) → ((k : ℕ) → getD s k 0 < 256)
+    → (getD s i 0 * 256 + getD s (i + 1) 0) * 65536 + (getD s (i + 2) 0 * 256 + getD s (i + 3) 0) ≡ uint (bitOf s) (8 * i) 32
+four-octets s i g =
+    let octet : (k : ℕ) → uint (bitOf s) (8 * k) 8 ≡ getD s k 0 = λ k. uint-octet s k (g k) in
+    let e : i + 2 + 1 ≡ i + 3 = omega arith in
+    omega (arith, octet i, octet (i + 1), octet (i + 2), octet (i + 3), octets-join s i 1 1, rw e at (octets-join s (i + 2) 1 1), octets-join s i 2 2)
 
 -- a test that is true where a ≤ b and false where not
 pub leb-tells : (t : Bool) (a b : ℕ) → (t ≡ true → a ≤ b) → (t ≡ false → b < a) → t ≡ leb a b

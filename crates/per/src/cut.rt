@@ -1,20 +1,23 @@
 // Bits cut out of a number, and the octets to make that number of.
 ghost use mathlib.Core.Path.{_≡_};
 ghost use Prim.Native.Nat.{_+_, _-_, _/_, _%_, _^_, _≤_, _<_, min};
-ghost use lib.ListN.{length};
+
+pub fn least(a: usize, b: usize) -> usize
+    ensures { λ r. ⌜ r ≡ min a b ⌝ }
+{
+    if a < b {
+        return a;
+    }
+    b
+}
 
 // The octet from which on so many are taken for the bits from `at` on: the bits' own first, or the
-// first of the slice's last.
-pub fn first(s: &[u8], at: usize, count: usize) -> usize
-    requires { ⌜ count ≤ length (now s) ⌝ }
-    ensures { λ r. ⌜ r ≡ min (at / 8) (length (now (s .entry)) - count) ⌝ }
+// first of the last ones.
+pub fn first(len: usize, at: usize, count: usize) -> usize
+    requires { ⌜ count ≤ len ⌝ }
+    ensures { λ r. ⌜ r ≡ min (at / 8) (len - count) ⌝ }
 {
-    let own = at / 8;
-    let last = s.len() - count;
-    if own < last {
-        return own;
-    }
-    last
+    least(at / 8, len - count)
 }
 
 // The n bits behind the first `skip` of v, which has `size`. Where it has fewer the shift is taken
