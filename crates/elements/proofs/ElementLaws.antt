@@ -19,7 +19,7 @@ use Rattle.cursor.specs.Place.{put, stopped, Inside, Pulls, Reads, Takes}
 use Rattle.cursor.proofs.Laws.{reads-ok, marked-nil}
 use Rattle.ranged_numbers.proofs.ChoiceLaws.{takes-unlisted}
 use Rattle.records.specs.Told.{Told}
-use Rattle.records.proofs.Telling.{told-none}
+use Rattle.records.proofs.Telling.{told-none, told-length}
 use Rattle.runs.specs.declared.At.{At}
 use Rattle.runs.specs.Runs.{Runs}
 use Rattle.runs.proofs.RunLaws.{runs-then, runs-same, runs-told, runs-untold, runs-stayed, runs-silent, runs-within, runs-pull, dropped, led-lax, led-lax-lack, ran-lax}
@@ -126,3 +126,32 @@ module _ (table : List ℕ) (i : ℕ) {s : List ℕ} {c : Cursor} {n : ℕ} {w :
       let e : i + 1 ≡ suc i = omega arith in
       let f : suc k - 1 ≡ k = omega arith in
       runs-within (suc k * 143) _ (omega arith) (runs-then (elementAt table i s) (elementsAt table (suc i) k s) (λ u p. firm-read (bitOf s) (elementFormat table) (0, i) u p (elements-firm table)) x (rw (e, f) at y))
+
+-- k of `left` elements are walked, from number i on: the rest of the walk is all that is missing
+pub record Walking (table : List ℕ) (i left k : ℕ) (s : List ℕ) (c : Cursor) (n : ℕ) (w₀ w : List ℕ) (y : At) : Type 0 where
+  pub some : k ≤ left
+  pub few : y .n ≤ n + k * 143
+  pub room : length w ≡ length w₀
+  pub rest : {w′ : List ℕ} {t : At} → Runs ((left - k) * 143) (elementsAt table (i + k) (left - k) s) s (y .c) (y .n) w w′ t → Runs (left * 143) (elementsAt table i left s) s c n w₀ w′ t
+
+module _ (table : List ℕ) (i left : ℕ) {s : List ℕ} {c : Cursor} {n : ℕ} {w₀ : List ℕ} where
+  pub walking-begun : Walking table i left 0 s c n w₀ w₀ (record { n = n; c = c })
+  walking-begun =
+      let e : i + 0 ≡ i = omega arith in
+      let f : left - 0 ≡ left = omega arith in
+      record { some = omega arith; few = omega arith; room = refl; rest = λ x. rw (e, f) at x }
+
+  module _ {k : ℕ} {w : List ℕ} {y : At} (walking : Walking table i left k s c n w₀ w y) where
+    pub walking-on : {w₁ : List ℕ} {z : At} → k < left → Runs 143 (elementAt table (i + k) s) s (y .c) (y .n) w w₁ z → Walking table i left (k + 1) s c n w₀ w₁ z
+    walking-on h x =
+        let e : i + (k + 1) ≡ i + k + 1 = omega arith in
+        let f : left - (k + 1) ≡ left - k - 1 = omega arith in
+        record {
+          some = omega arith;
+          few = omega (arith, walking .few, x .told .few);
+          room = told-length (x .told) ∙ walking .room;
+          rest = λ z. walking .rest (walk-more table (i + k) (left - k) (λ q. omega arith) x (rw (e, f) at z));
+        }
+
+    pub walking-done : left ≤ k → Runs (left * 143) (elementsAt table i left s) s c n w₀ w y
+    walking-done h = walking .rest (walk-none table (i + k) (left - k) (omega (arith, walking .some)))

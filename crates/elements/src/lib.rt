@@ -71,9 +71,11 @@ pub fn read_elements(s: &[u8], words: &mut [u64], x: At, table: &[u8], i: u64, l
     requires { ⌜ (x .n + left * 143 < 2 ^ 25) × (i + left < 2 ^ 32) × (1 ≤ length (now table)) × (length (now table) ≤ 256) ⌝ }
     ensures { λ r. ⌜ Runs (left * 143) (elementsAt (now (table .entry)) i left (now (s .entry))) (now (s .entry)) (x .c) (x .n) (now (words .entry)) (now (words .exit)) r ⌝ }
 {
-    if left == 0 {
-        return x;
+    let mut y = x;
+    let mut k: u64 = 0;
+    while k < left {
+        y = read_element(s, words, y, table, i + k);
+        k += 1;
     }
-    let y = read_element(s, words, x, table, i);
-    read_elements(s, words, y, table, i + 1, left - 1)
+    y
 }
