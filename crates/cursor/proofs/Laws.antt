@@ -134,6 +134,15 @@ marked-nil c = go (c .why) refl
     go zero z = rw (eq-eqb (c .why) 0 z, or-nil (c .marks)) (ap (λ (w : ℕ). put c (c .at) w (c .marks)) z)
     go (suc w) z = rw (ne-eqb (c .why) 0 (λ y. omega arith))
 
+-- behind a stop nothing goes on
+pub stopped-stops : (c : Cursor) {d : Cursor} (w m : ℕ) → (w ≡ 0 → ⊥) → d ≡ stopped c w m → d .why ≡ 0 → ⊥
+unfolding stopped
+stopped-stops c {d} w m h q z = by (c .why) refl
+  where
+    by : (v : ℕ) → c .why ≡ v → ⊥
+    by zero y = h (rw (q, eq-eqb (c .why) 0 y) at z)
+    by (suc v) y = let n : c .why ≡ 0 → ⊥ = (λ k. omega arith) in n (rw (q, ne-eqb (c .why) 0 n) at z)
+
 ---------------------------------------------------------------- one bit of a number
 
 pub bit-of : (s : List ℕ) (at j r n : ℕ) → j + 1 + r ≡ n → uint (bitOf s) at n / 2 ^ r % 2 ≡ bitOf s (at + j)

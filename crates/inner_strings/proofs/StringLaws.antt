@@ -35,26 +35,19 @@ unfolding stopped
 string-off {d = d} {l = l} measures passes goes q o =
     record { length-read = l; behind = d; measures = measures; passes = passes; stops = λ z. (let y = rw (q, goes) at z in omega arith); same = λ h. absurd (h goes); off = λ _. o }
 
-module _ {s : List ℕ} {c : Cursor} {l : Measured} (measures : Measures s c l) {t : Bool} where
-  -- places that the frame holds are small
-  pub near : length s ≤ 65536 → t ≡ leb (l .c .at) (length s * 8) → t ≡ true → l .c .at ≤ 524288
-  near h p q = let i = leb-true (l .c .at) (length s * 8) (sym p ∙ q) in omega arith
+-- a place that the frame holds is small
+pub near : {t : Bool} (p n : ℕ) → n ≤ 65536 → t ≡ leb p (n * 8) → t ≡ true → p ≤ 524288
+near p n h e q = let i = leb-true p (n * 8) (sym e ∙ q) in omega arith
 
-  pub near-end : length s ≤ 65536 → t ≡ leb (l .c .at + l .count) (length s * 8) → t ≡ true → l .c .at + l .count ≤ 524288
-  near-end h p q = let i = leb-true (l .c .at + l .count) (length s * 8) (sym p ∙ q) in omega arith
+module _ {s : List ℕ} {c d : Cursor} {l : Measured} {t : Bool} (measures : Measures s c l) (passes : Passes (l .c) (l .count) d) (goes : d .why ≡ 0) (p : t ≡ leb (d .at) (length s * 8)) where
+  pub string-ends-behind : {e : Cursor} → t ≡ false → e ≡ stopped d 4 0 → Lacks s c e
+  string-ends-behind q x = string-off measures passes goes x (omega (arith, leb-false (d .at) (length s * 8) (sym p ∙ q), passes .moved goes))
 
-  module _ {d : Cursor} (passes : Passes (l .c) (l .count) d) (goes : d .why ≡ 0) where
-    pub string-begins-behind : {e : Cursor} → t ≡ leb (l .c .at) (length s * 8) → t ≡ false → e ≡ stopped d 4 0 → Lacks s c e
-    string-begins-behind p q x = let o = leb-false (l .c .at) (length s * 8) (sym p ∙ q) in string-off measures passes goes x (omega arith)
-
-    pub string-ends-behind : {e : Cursor} → t ≡ leb (l .c .at + l .count) (length s * 8) → t ≡ false → e ≡ stopped d 4 0 → Lacks s c e
-    string-ends-behind p q x = string-off measures passes goes x (leb-false (l .c .at + l .count) (length s * 8) (sym p ∙ q))
-
-    pub string-held : t ≡ leb (l .c .at + l .count) (length s * 8) → t ≡ true
-        → Has s c (l .c .at / 8) ((l .c .at + l .count + 7) / 8) (record { at = l .c .at % 8; end = l .c .at % 8 + l .count; why = 0; marks = d .marks }) d
-    string-held p q =
-        let i = leb-true (l .c .at + l .count) (length s * 8) (sym p ∙ q) in
-        record { length-read = l; measures = measures; passes = passes; goes = goes; first-byte = refl; last-byte = refl; bits = refl; ordered = omega arith; held = omega arith }
+  pub string-held : t ≡ true → Has s c (l .c .at / 8) ((d .at + 7) / 8) (record { at = l .c .at % 8; end = l .c .at % 8 + l .count; why = 0; marks = d .marks }) d
+  string-held q =
+      let i = leb-true (d .at) (length s * 8) (sym p ∙ q) in
+      let e = passes .moved goes in
+      record { length-read = l; measures = measures; passes = passes; goes = goes; first-byte = refl; last-byte = rw e refl; bits = refl; ordered = omega arith; held = omega arith }
 
 module _ {s : List ℕ} {c d : Cursor} {r : Inner} where
   pub lost : r ≡ Lost d → Strings s c r → Lacks s c d

@@ -24,20 +24,19 @@ pub fn find_string(s: &[u8], c: Cursor) -> Inner
     let first = l.c;
     let at = first.at;
     let behind = pass(first, Bits(count));
+    let end = behind.at;
     let marks = behind.marks;
     if behind.why != 0 {
         return Inner::Lost(behind);
     }
-    if holds(s, at) {
-        if holds(s, at + count) {
-            let window = Cursor {
-                at: at % 8,
-                end: at % 8 + count,
-                why: 0,
-                marks: marks,
-            };
-            return Inner::Found(at / 8, (at + count + 7) / 8, window, behind);
-        }
+    if holds(s, end) {
+        let window = Cursor {
+            at: at % 8,
+            end: at % 8 + count,
+            why: 0,
+            marks: marks,
+        };
+        return Inner::Found(at / 8, (end + 7) / 8, window, behind);
     }
     // no cursor in the frame comes here
     Inner::Lost(stop(behind, 4, 0))

@@ -3,7 +3,6 @@ use mathlib.Core.Path.{_≡_, refl}
 use mathlib.Core.List.{List, [], _++_, append-nil}
 use Prim.Native.Nat.{ℕ, zero, suc}
 use native.Mathlib.Omega.{arith}
-use borrow.Author.Tests.{eq-eqb, ne-eqb}
 use Rattle.x691.specs.Bits.{bitOf}
 use Rattle.x691.specs.Encoding.{width, widthIn, count}
 use Rattle.x691.specs.Encoding as encoding
@@ -15,6 +14,7 @@ use Rattle.cursor.specs.declared.place.Got.{Got}
 use Rattle.cursor.specs.Place.{stopped, Pulls, Takes}
 use Rattle.character_strings.specs.Texts.{textRecs}
 use Rattle.ranged_numbers.proofs.ChoiceLaws.{takes-index, takes-unlisted}
+use Rattle.cursor.proofs.Laws.{stopped-stops}
 use Rattle.cursor.proofs.FormatLaws.{allRead, takes-plain, takes-refuse, takes-times, fields-must, fields-last, times-none, times-more}
 use Rattle.angles.specs.declared.Pair.{Pair}
 use Rattle.named_places.specs.declared.Published.{Published}
@@ -25,15 +25,6 @@ use Rattle.legs.specs.declared.Leg.the-variants.{Place, Coordinates, Bet
 use Rattle.character_strings.specs.declared.Text.{Text}
 use Rattle.legs.specs.Legs.{bearing, ranging, routeInformation, bearingRecs, legRecs, Rangings}
 use Rattle.optional_parts.proofs.PartLaws.{reads-any}
-
--- behind a stop nothing goes on
-stopped-stops : (c : Cursor) {d : Cursor} (w m : ℕ) → (w ≡ 0 → ⊥) → d ≡ stopped c w m → d .why ≡ 0 → ⊥
-unfolding stopped
-stopped-stops c {d} w m h q z = by (c .why) refl
-  where
-    by : (v : ℕ) → c .why ≡ v → ⊥
-    by zero y = h (rw (q, eq-eqb (c .why) 0 y) at z)
-    by (suc v) y = let n : c .why ≡ 0 → ⊥ = (λ k. omega arith) in n (rw (q, ne-eqb (c .why) 0 n) at z)
 
 takes-any : {f : Fmt} {s : List ℕ} {c d : Cursor} {T : ℕ → List Rec} (U : ℕ → List Rec) → (d .why ≡ 0 → ⊥) → Takes f s c d T → Takes f s c d U
 takes-any U h y = record { took = λ x. reads-any (U (x .0)) h (y .took x) }

@@ -9,7 +9,7 @@ use native.Mathlib.Omega.{arith}
 use lib.ListN.{length}
 use lib.Dec.{leb, eqb}
 use lib.Pow.{low, pow-pos}
-use borrow.Author.Tests.{le-leb, lt-leb, eq-eqb, ne-eqb}
+use borrow.Author.Tests.{le-leb, lt-leb}
 use Rattle.x691.specs.Bits.{bitOf, uint}
 use Rattle.per.proofs.Laws.{uint-below, uint-below-wide, uint-split}
 use Rattle.atn.specs.Format.{out, bad, anySpan, skipped, small}
@@ -22,7 +22,7 @@ use Rattle.length_determinants.specs.declared.Head.the-variants.{Last, P
 use Rattle.length_determinants.specs.declared.Measured.{Measured}
 use Rattle.cursor.specs.Place.{number, put, stopped, marked, Inside, Pulled, stuck, short, got, Pulls, Led, stayed, went, failed, Reads, Takes}
 use Rattle.length_determinants.specs.Lengths.{Passes, Known, Ends, GoesOn, Heads, Sums, Measures, Worth, smallThen, Smalls}
-use Rattle.cursor.proofs.Laws.{led-inside, led-stays, reads-same, reads-then, reads-ok, reads-stop, Behind, pull-then, marked-nil}
+use Rattle.cursor.proofs.Laws.{led-inside, led-stays, reads-same, reads-then, reads-ok, reads-stop, Behind, pull-then, marked-nil, stopped-stops}
 use Rattle.cursor.proofs.FormatLaws.{reads-going}
 
 ---------------------------------------------------------------- steps of a reading
@@ -70,14 +70,6 @@ marked-place c m = go (eqb (c .why) 0)
     go true = (refl, refl)
     go false = (refl, refl)
 
-stopped-stays : {d : Cursor} (c : Cursor) (m : ℕ) → d ≡ stopped c 5 m → d .why ≡ 0 → ⊥
-unfolding stopped
-stopped-stays {d} c m q = go (c .why) refl
-  where
-    go : (w : ℕ) → c .why ≡ w → d .why ≡ 0 → ⊥
-    go zero z y = let x : _≡_ {A = ℕ} 5 0 = rw (q, eq-eqb (c .why) 0 z) at y in omega arith
-    go (suc w) z y = let x : c .why ≡ 0 = rw (q, ne-eqb (c .why) 0 (λ v. omega arith)) at y in omega arith
-
 -- behind a stop nothing is read
 reads-stays : {s : List ℕ} {c d e : Cursor} {R : List Rec} (k l : ℕ → ℕ → Ans) → (d .why ≡ 0 → ⊥) → Reads k s c d R → Reads l s d e R → Reads k s c e R
 reads-stays {s} {c} {d} {e} k l h x y = record { led = λ i. rw (led-stays l d e h (y .led (led-inside k s c d (x .led i) i))) (x .led i) }
@@ -122,18 +114,18 @@ module _ {s : List ℕ} {c : Cursor} {n : ℕ} {g : Got} where
 
 module _ (c : Cursor) (n : ℕ) where
   pub passes-stuck : (c .why ≡ 0 → ⊥) → Passes c n c
-  passes-stuck h = record { pulls = λ s. record { gave = λ i. stuck h refl } }
+  passes-stuck h = record { pulls = λ s. record { gave = λ i. stuck h refl }; moved = λ z. absurd (h z) }
 
   pub passes-over : c .why ≡ 0 → c .at ≤ c .end → n ≤ c .end - c .at → Passes c n (put c (c .at + n) 0 (c .marks))
-  passes-over z a l = record { pulls = λ s. record { gave = λ i. got z (omega arith) refl refl } }
+  passes-over z a l = record { pulls = λ s. record { gave = λ i. got z (omega arith) refl refl }; moved = λ _. refl }
 
   pub passes-short : {w : ℕ} → c .why ≡ 0 → c .at ≤ c .end → c .end - c .at < n → w ≡ number (out (n - (c .end - c .at))) → Passes c n (put c (c .at) w (c .marks))
   passes-short z a l q =
       let e : n - (c .end - c .at) ≡ c .at + n - c .end = omega arith in
-      record { pulls = λ s. record { gave = λ i. short z (omega arith) (ap (λ (x : ℕ). put c (c .at) x (c .marks)) (q ∙ rw e)) } }
+      record { pulls = λ s. record { gave = λ i. short z (omega arith) (ap (λ (x : ℕ). put c (c .at) x (c .marks)) (q ∙ rw e)) }; moved = λ y. omega arith }
 
   pub passes-off : c .end < c .at → Passes c n (put c (c .at) 4 (c .marks))
-  passes-off l = record { pulls = λ s. record { gave = λ i. absurd (omega (arith, i .0)) } }
+  passes-off l = record { pulls = λ s. record { gave = λ i. absurd (omega (arith, i .0)) }; moved = λ z. omega arith }
 
 module _ {s : List ℕ} {c r : Cursor} {n : ℕ} {R : List Rec} (x : Passes c n r) where
   pub passes-then : {d : Cursor} (k : ℕ → ℕ → Ans) → Reads k s r d R → Reads (λ u p. pull (bitOf s) u p n (λ _. k u (p + n))) s c d R
@@ -218,7 +210,7 @@ module _ {s : List ℕ} {c : Cursor} (i : Inside s c) {form : Got} (a : Pulls s 
           }
 
       pub head-bad : {d : Cursor} → (m .v < 1) ⊎ (4 < m .v) → d ≡ stopped (m .c) 5 0 → Ends s c 0 d
-      head-bad {d} o q = record { then = λ k g r. reads-stays _ _ (stopped-stays (m .c) 0 q) (multiplied k g (go o k g)) r; few = omega arith }
+      head-bad {d} o q = record { then = λ k g r. reads-stays _ _ (stopped-stops (m .c) 5 0 (λ z. omega arith) q) (multiplied k g (go o k g)) r; few = omega arith }
         where
           go : (m .v < 1) ⊎ (4 < m .v) → (k : ℕ → ℕ → ℕ → Ans) (g : ℕ) {R : List Rec} → Reads (λ u p. fragmentForm s k g (m .v) u p) s (m .c) d R
           go (inl l) k g = reads-refuse _ 0 _ (lt-leb 1 (m .v) l) q

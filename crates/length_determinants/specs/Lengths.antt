@@ -14,6 +14,8 @@ use Rattle.cursor.specs.Place.{Inside, Pulls, Reads}
 -- n bits were passed over: whatever the frame is, they are as good as pulled
 pub record Passes (c : Cursor) (n : ℕ) (r : Cursor) : Type 0 where
   pub pulls : (s : List ℕ) → Pulls s c n (record { v = uint (bitOf s) (c .at) n; c = r })
+  -- in the frame or not
+  pub moved : r .why ≡ 0 → r .at ≡ c .at + n
 
 -- n bits, of which something is known where they were not there too
 pub record Known (s : List ℕ) (c : Cursor) (n : ℕ) (g : Got) : Type 0 where

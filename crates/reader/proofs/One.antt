@@ -1,17 +1,17 @@
 -- Any two outcomes that `Took` allows are equal: number and cursor are determined, for every frame, cursor and count.
 use mathlib.Core.Path.{_≡_, refl, sym, ap, _∙_}
-use mathlib.Core.Bool.{Bool, true, false, cond}
+use mathlib.Core.Bool.{Bool, true, false}
 use mathlib.Core.List.{List}
-use Prim.Native.Nat.{ℕ, zero, suc, _+_, _-_, _*_, _≤_, _<_}
+use Prim.Native.Nat.{ℕ, _+_, _-_, _*_, _≤_, _<_}
 use native.Mathlib.Omega.{arith}
 use lib.ListN.{length}
-use lib.Dec.{leb, eqb}
-use borrow.Author.Tests.{leb-true, leb-false, eq-eqb, ne-eqb}
+use lib.Dec.{leb}
+use borrow.Author.Tests.{leb-true, leb-false}
 use Rattle.atn.specs.Format.{out}
-use Rattle.atn.specs.Reading.{or}
 use Rattle.cursor.specs.declared.place.Cursor.{Cursor}
 use Rattle.cursor.specs.declared.place.Got.{Got}
 use Rattle.cursor.specs.Place.{number, put, stopped, Inside, Pulled, stuck, short, got}
+use Rattle.cursor.proofs.Laws.{stopped-stops}
 use Rattle.reader.specs.Reads.{Took}
 
 module _ (s : List ℕ) (c : Cursor) (n : ℕ) where
@@ -23,12 +23,7 @@ module _ (s : List ℕ) (c : Cursor) (n : ℕ) where
 
   -- off the frame it has stopped too
   lost : {d : Cursor} → d ≡ stopped c 4 0 → d .why ≡ 0 → ⊥
-  unfolding stopped
-  lost {d} q = go (c .why) refl
-    where
-      go : (w : ℕ) → c .why ≡ w → d .why ≡ 0 → ⊥
-      go zero e = runs-out 0 {p = c .at} {m = or (c .marks) 0} (q ∙ rw (eq-eqb (c .why) 0 e))
-      go (suc w) e = let y : c .why ≡ 0 → ⊥ = (λ z. omega arith) in stops y (q ∙ rw (ne-eqb (c .why) 0 y))
+  lost = stopped-stops c 4 0 (λ z. omega arith)
 
   module _ {g h : Got} (a : Took s c n g) (b : Took s c n h) where
     -- neither has a number
