@@ -11,7 +11,8 @@ use field_ranges::table::MONTH;
 use field_ranges::table::YEAR;
 use numbers::one_by_one;
 use ranged_numbers::from_lowest;
-use records::emit;
+use records::space::words_for;
+use records::store;
 
 mod numbers; // numbers.rt: the six numbers one by one
 
@@ -63,21 +64,24 @@ pub fn read_date_time(s: &[u8], c: Cursor) -> DateTimeAt
     one_by_one(s, c)
 }
 
-// It stands outside the elements.
+// It stands outside the elements. The room is asked for once.
 pub fn tell_date_time(words: &mut [u64], n: usize, x: DateTime) -> usize
     requires { ⌜ n < 2 ^ 31 ⌝ }
     ensures { λ m. ⌜ Told 6 (now (words .entry)) (now (words .exit)) n m (dateTimeRecs x 0) ⌝ }
 {
+    if words.len() < words_for(n + 6) {
+        return n + 6;
+    }
     let at = x.at;
-    let a = emit(words, n, 11, 0, x.year, 0, at);
+    let a = store(words, n, 11, 0, x.year, 0, at);
     let month_at = std::num::wrapping_add_usize(at, 7);
-    let b = emit(words, a, 12, 0, x.month, 0, month_at);
+    let b = store(words, a, 12, 0, x.month, 0, month_at);
     let day_at = std::num::wrapping_add_usize(at, 11);
-    let d = emit(words, b, 13, 0, x.day, 0, day_at);
+    let d = store(words, b, 13, 0, x.day, 0, day_at);
     let hours_at = std::num::wrapping_add_usize(at, 16);
-    let e = emit(words, d, 14, 0, x.hours, 0, hours_at);
+    let e = store(words, d, 14, 0, x.hours, 0, hours_at);
     let minutes_at = std::num::wrapping_add_usize(at, 21);
-    let f = emit(words, e, 15, 0, x.minutes, 0, minutes_at);
+    let f = store(words, e, 15, 0, x.minutes, 0, minutes_at);
     let seconds_at = std::num::wrapping_add_usize(at, 27);
-    emit(words, f, 16, 0, x.seconds, 0, seconds_at)
+    store(words, f, 16, 0, x.seconds, 0, seconds_at)
 }

@@ -1,7 +1,7 @@
 -- How many words records take. Only these laws and the proofs of the code look into `size` and `space`.
 use mathlib.Core.Path.{_≡_, refl}
 use mathlib.Core.List.{List, [], _∷_, _++_}
-use Prim.Native.Nat.{ℕ, _≤_}
+use Prim.Native.Nat.{ℕ, _+_, _≤_}
 use native.Mathlib.Omega.{arith}
 use lib.ListN.{length}
 use Rattle.atn.specs.Reading.{Rec, rec}
@@ -35,3 +35,8 @@ pub flat-need : (rs : List Rec) → length (flat rs) ≡ need rs
 unfolding flat need
 flat-need [] = refl
 flat-need (rec t m v s q ∷ rs) = let e = flat-need rs in omega arith
+
+-- a record more
+pub space-more : (n : ℕ) → space (n + 1) ≡ space n + size
+unfolding space
+space-more n = omega arith

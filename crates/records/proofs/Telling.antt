@@ -1,7 +1,7 @@
 -- How what is told goes together, over any records.
 use mathlib.Core.Path.{_≡_, _∙_, refl, sym, ap}
-use mathlib.Core.List.{List, [], _++_, append-assoc, append-nil}
-use Prim.Native.Nat.{ℕ, _+_, _≤_}
+use mathlib.Core.List.{List, [], _∷_, _++_, append-assoc, append-nil}
+use Prim.Native.Nat.{ℕ, suc, _+_, _^_, _≤_, _<_}
 use native.Mathlib.Nat.{add-zero}
 use native.Mathlib.Omega.{arith}
 use lib.ListN.{length, take, length-append}
@@ -15,6 +15,10 @@ use Rattle.records.proofs.Sizes.{flat-append, space-grows, space-zero}
 pub told-none : {w : List ℕ} {n : ℕ} → Told 0 w w n n []
 unfolding flat
 told-none {w} {n} = record { count = sym (add-zero n); few = omega arith; room = refl; before = refl; words = λ _. sym (append-nil (take (space n) w)) }
+
+-- without room for all of them nothing need be written
+pub told-unwritten : {w : List ℕ} {n : ℕ} (rs : List Rec) → length w < space (n + length rs) → Told (length rs) w w n (n + length rs) rs
+told-unwritten rs h = record { count = refl; few = omega arith; room = refl; before = refl; words = λ f. absurd (omega arith) }
 
 -- words that are alike up to the space of m are alike up to that of n
 shorter : (w w′ : List ℕ) (n m : ℕ) → n ≤ m → take (space m) w′ ≡ take (space m) w → take (space n) w′ ≡ take (space n) w
@@ -53,3 +57,18 @@ told-dropped {w = w} {n = n} p = record { count = sym (add-zero n); few = omega 
 -- from the front on: where they fit, the records are the first of the words
 pub told-first : {k : ℕ} {w w′ : List ℕ} {m : ℕ} {rs : List Rec} → Told k w w′ 0 m rs → space m ≤ length w → take (space m) w′ ≡ flat rs
 told-first {w = w} {rs = rs} p h = p .words h ∙ ap (λ (k : ℕ). take k w ++ flat rs) space-zero
+
+-- room for j records more than the m that are there: what `store` asks for the next, and behind it room for the others
+pub record Room (j m : ℕ) (w : List ℕ) : Type 0 where
+  pub few : m + j ≤ 2 ^ 32
+  pub enough : space (m + j) ≤ length w
+
+pub room-next : {j : ℕ} (m : ℕ) {w : List ℕ} → Room (suc j) m w → (m < 2 ^ 32) × (space (m + 1) ≤ length w)
+room-next {j} m r =
+    let l : m + 1 ≤ m + suc j = omega arith in
+    (omega (arith, r .few), omega (arith, r .enough, space-grows l))
+
+pub room-behind : {j m m′ : ℕ} {w w′ : List ℕ} {r : Rec} → Room (suc j) m w → Told 1 w w′ m m′ (r ∷ []) → Room j m′ w′
+room-behind {j} {m} {m′} r t =
+    let e : m′ + j ≡ m + suc j = omega (arith, t .count) in
+    record { few = rw e (r .few); enough = rw e (omega (arith, r .enough, t .room)) }
