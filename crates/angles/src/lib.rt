@@ -19,13 +19,9 @@ use ranged_numbers::ranged;
 // Form 0: thousandths of a degree; 1: degrees and hundredths of a minute; 2: degrees, minutes and seconds.
 pub struct Form {
     pub form: u64,
-    pub form_at: usize,
     pub first: u64,
-    pub first_at: usize,
     pub second: u64,
-    pub second_at: usize,
     pub third: u64,
-    pub third_at: usize,
 }
 
 pub struct FormAt {
@@ -33,10 +29,11 @@ pub struct FormAt {
     pub c: Cursor,
 }
 
+// at: where the form starts. The numbers and the side follow it, each behind the bits of the one before.
 pub struct Angle {
+    pub at: usize,
     pub form: Form,
     pub side: u64,
-    pub side_at: usize,
 }
 
 pub struct AngleAt {
@@ -80,13 +77,9 @@ pub struct MaybePairAt {
 fn no_form() -> Form {
     Form {
         form: 0,
-        form_at: 0,
         first: 0,
-        first_at: 0,
         second: 0,
-        second_at: 0,
         third: 0,
-        third_at: 0,
     }
 }
 
@@ -95,9 +88,9 @@ fn no_angle() -> MaybeAngle
 {
     let form = no_form();
     let angle = Angle {
+        at: 0,
         form: form,
         side: 0,
-        side_at: 0,
     };
     MaybeAngle {
         has: 0,
@@ -117,13 +110,9 @@ fn read_form(s: &[u8], c: Cursor, thousandths: Range, degrees: Range) -> FormAt
         let end = a.c;
         let form = Form {
             form: 0,
-            form_at: c.at,
             first: a.v,
-            first_at: index.c.at,
             second: 0,
-            second_at: 0,
             third: 0,
-            third_at: 0,
         };
         return FormAt { form: form, c: end };
     }
@@ -133,13 +122,9 @@ fn read_form(s: &[u8], c: Cursor, thousandths: Range, degrees: Range) -> FormAt
         let end = b.c;
         let form = Form {
             form: 1,
-            form_at: c.at,
             first: a.v,
-            first_at: index.c.at,
             second: b.v,
-            second_at: a.c.at,
             third: 0,
-            third_at: 0,
         };
         return FormAt { form: form, c: end };
     }
@@ -150,13 +135,9 @@ fn read_form(s: &[u8], c: Cursor, thousandths: Range, degrees: Range) -> FormAt
         let end = d.c;
         let form = Form {
             form: 2,
-            form_at: c.at,
             first: a.v,
-            first_at: index.c.at,
             second: b.v,
-            second_at: a.c.at,
             third: d.v,
-            third_at: b.c.at,
         };
         return FormAt { form: form, c: end };
     }
@@ -174,9 +155,9 @@ fn read_angle(s: &[u8], c: Cursor, thousandths: Range, degrees: Range) -> AngleA
     let f = form.form;
     let end = side.c;
     let angle = Angle {
+        at: c.at,
         form: f,
         side: side.v,
-        side_at: form.c.at,
     };
     AngleAt {
         angle: angle,

@@ -16,10 +16,10 @@ use Rattle.field_ranges.specs.Ends.{lowest, highest}
 use Rattle.ranged_numbers.specs.Numbers.{FromLowest, Ranged}
 use Rattle.cursor.proofs.FormatLaws.{allRead, takes-plain, fields-must, fields-last}
 use Rattle.ranged_numbers.proofs.Split.{Stands, pull-went, stands-first, stands-last, told-at, ranged-at, takes-inside}
+use Rattle.ranged_numbers.proofs.Places.{takes-told, along-here, number-back, number-along, along-place}
 use Rattle.date_times.specs.declared.DateTime.{DateTime}
 use Rattle.date_times.specs.declared.DateTimeAt.{DateTimeAt}
 use Rattle.date_times.specs.Times.{DateTimes, dateTimeRecs}
-use Rattle.date_times.proofs.Places.{takes-told, Behind, number-inside, number-behind}
 
 abbrev time : Cursor → Got → Got → Got → Got → Got → Got → DateTimeAt
 time c year month day hours minutes seconds =
@@ -39,24 +39,17 @@ module _ {s : List ℕ} {c : Cursor} (year month day hours minutes seconds : Got
   same-places : Inside s c → seconds .c .why ≡ 0 → (n : ℕ) → toldAt (time c year month day hours minutes seconds .time) (year .c .at) (month .c .at) (day .c .at) (hours .c .at) (minutes .c .at) n ≡ dateTimeRecs (time c year month day hours minutes seconds .time) n
   unfolding lowest highest extent width widthIn word
   same-places i z n =
-      let i₁ = number-inside 1 a i in
-      let i₂ = number-inside 2 b i₁ in
-      let i₃ = number-inside 3 d i₂ in
-      let i₄ = number-inside 4 e i₃ in
-      let i₅ = number-inside 5 f i₄ in
-      let z₆ : Behind (minutes .c) 6 (seconds .c) = number-behind 5 g i₅ z in
-      let z₅ : Behind (hours .c) 6 (minutes .c) = number-behind 5 f i₄ (z₆ .going) in
-      let z₄ : Behind (day .c) 5 (hours .c) = number-behind 4 e i₃ (z₅ .going) in
-      let z₃ : Behind (month .c) 5 (day .c) = number-behind 3 d i₂ (z₄ .going) in
-      let z₂ : Behind (year .c) 4 (month .c) = number-behind 2 b i₁ (z₃ .going) in
-      let z₁ : Behind c 7 (year .c) = number-behind 1 a i (z₂ .going) in
-      let l : minutes .c .at < 2 ^ 64 = omega (arith, i₅ .0, z₅ .same, z₄ .same, z₃ .same, z₂ .same, z₁ .same) in
-      let w₁ : year .c .at ≡ word (c .at + 7) = omega (arith, z₁ .to, z₂ .to, z₃ .to, z₄ .to, z₅ .to) in
-      let w₂ : month .c .at ≡ word (c .at + 11) = omega (arith, z₁ .to, z₂ .to, z₃ .to, z₄ .to, z₅ .to) in
-      let w₃ : day .c .at ≡ word (c .at + 16) = omega (arith, z₁ .to, z₂ .to, z₃ .to, z₄ .to, z₅ .to) in
-      let w₄ : hours .c .at ≡ word (c .at + 21) = omega (arith, z₁ .to, z₂ .to, z₃ .to, z₄ .to, z₅ .to) in
-      let w₅ : minutes .c .at ≡ word (c .at + 27) = omega (arith, z₁ .to, z₂ .to, z₃ .to, z₄ .to, z₅ .to) in
-      rw (w₁, w₂, w₃, w₄, w₅)
+      let behind-year = number-along 1 along-here a in
+      let behind-month = number-along 2 behind-year b in
+      let behind-day = number-along 3 behind-month d in
+      let behind-hours = number-along 4 behind-day e in
+      let behind-minutes = number-along 5 behind-hours f in
+      let z₅ = number-back 5 behind-minutes g i z in
+      let z₄ = number-back 5 behind-hours f i z₅ in
+      let z₃ = number-back 4 behind-day e i z₄ in
+      let z₂ = number-back 3 behind-month d i z₃ in
+      let z₁ = number-back 2 behind-year b i z₂ in
+      rw (along-place behind-year fits i z₁, along-place behind-month fits i z₂, along-place behind-day fits i z₃, along-place behind-hours fits i z₄, along-place behind-minutes fits i z₅)
 
   pub in-a-row : DateTimes s c (time c year month day hours minutes seconds)
   unfolding lowest highest flags allRead

@@ -1,3 +1,4 @@
 pub mod NumberLaws
 pub mod ChoiceLaws
 pub mod Split
+pub mod Places

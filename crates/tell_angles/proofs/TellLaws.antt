@@ -1,13 +1,13 @@
 -- The records of an angle by its form, and of parts that may be absent.
 use mathlib.Core.Path.{_≡_, refl}
-use mathlib.Core.List.{List, [], _∷_}
-use Prim.Native.Nat.{ℕ, zero, suc, _+_}
+use mathlib.Core.List.{List, [], _∷_, _++_}
+use Prim.Native.Nat.{ℕ, zero, suc, _+_, _%_, _^_}
 use native.Mathlib.Omega.{arith}
-use Rattle.atn.specs.Reading.{Rec, rec}
+use Rattle.atn.specs.Reading.{Rec, rec, word}
 use Rattle.records.specs.Told.{Told}
-use Rattle.records.proofs.Telling.{told-none, told-within}
-use Rattle.angles.specs.declared.Form.{Form}
-use Rattle.angles.specs.Angles.{numbers, formRecs, unlessAbsent}
+use Rattle.records.proofs.Telling.{told-none, told-then, told-within}
+use Rattle.angles.specs.declared.Angle.{Angle}
+use Rattle.angles.specs.Angles.{numbers, sidePlace, angleRecs, unlessAbsent}
 
 pub told-present : {k : ℕ} {w w′ : List ℕ} {n m : ℕ} {R : List Rec} (has : ℕ) → (has ≡ 0 → ⊥) → Told k w w′ n m R → Told k w w′ n m (unlessAbsent has R)
 told-present zero h p = absurd (h refl)
@@ -19,27 +19,42 @@ told-absent (suc has) R h = absurd (omega arith)
 
 ---------------------------------------------------------------- the forms of an angle
 
-module _ (t e : ℕ) (v : Form) where
-  first-numbers : (f : ℕ) → f ≡ 0 → numbers f t v e ≡ rec (t + 1) e (v .first) 0 (v .«first_at») ∷ []
-  first-numbers zero h = refl
-  first-numbers (suc f) h = absurd (omega arith)
+-- a sum that wraps, and then another
+wraps : (b m k : ℕ) {p q : ℕ} → p ≡ (b + m) % 2 ^ 64 → q ≡ (p + k) % 2 ^ 64 → q ≡ (b + (m + k)) % 2 ^ 64
+wraps b m k h i = omega arith
 
-  second-numbers : (f : ℕ) → f ≡ 1 → numbers f t v e ≡ rec (t + 2) e (v .first) 0 (v .«first_at») ∷ rec (t + 3) e (v .second) 0 (v .«second_at») ∷ []
-  second-numbers zero h = absurd (omega arith)
-  second-numbers (suc zero) h = refl
-  second-numbers (suc (suc f)) h = absurd (omega arith)
+module _ (a d t e : ℕ) (v : Angle) where
+  -- what is told behind the form
+  abbrev behind : ℕ → List Rec
+  behind f = numbers f d t (v .at) (v .form) e ++ (rec (t + 6) e (v .side) 0 (sidePlace f a d (v .at)) ∷ [])
 
-  third-numbers : (f : ℕ) → (f ≡ 0 → ⊥) → (f ≡ 1 → ⊥) → numbers f t v e ≡ rec (t + 2) e (v .first) 0 (v .«first_at») ∷ rec (t + 4) e (v .second) 0 (v .«second_at») ∷ rec (t + 5) e (v .third) 0 (v .«third_at») ∷ []
-  third-numbers zero h i = absurd (h refl)
-  third-numbers (suc zero) h i = absurd (i refl)
-  third-numbers (suc (suc f)) h i = refl
+  seconds-behind : (f : ℕ) → (f ≡ 0 → ⊥) → (f ≡ 1 → ⊥) → behind f ≡ behind 2
+  seconds-behind zero h i = absurd (h refl)
+  seconds-behind (suc zero) h i = absurd (i refl)
+  seconds-behind (suc (suc f)) h i = refl
 
-module _ (t e : ℕ) (v : Form) {w w′ : List ℕ} {n m : ℕ} where
-  pub told-thousandths : v .form ≡ 0 → Told 2 w w′ n m (rec t e (v .form) 0 (v .«form_at») ∷ rec (t + 1) e (v .first) 0 (v .«first_at») ∷ []) → Told 4 w w′ n m (formRecs t v e)
-  told-thousandths h p = told-within {j = 2} 4 (omega arith) (rw (first-numbers t e v (v .form) h) p)
+  -- each place is the one before and its bits
+  module _ {w w₁ w₂ w₃ : List ℕ} {n n₁ n₂ n₃ p₁ p₂ : ℕ} (form : Told 1 w w₁ n n₁ (rec t e (v .form .form) 0 (v .at) ∷ [])) (q₁ : p₁ ≡ (v .at + 2) % 2 ^ 64) where
+    pub told-thousandths : v .form .form ≡ 0 → Told 1 w₁ w₂ n₁ n₂ (rec (t + 1) e (v .form .first) 0 p₁ ∷ []) → p₂ ≡ (p₁ + a) % 2 ^ 64 → Told 1 w₂ w₃ n₂ n₃ (rec (t + 6) e (v .side) 0 p₂ ∷ [])
+        → Told 5 w w₃ n n₃ (angleRecs a d t v e)
+    unfolding angleRecs word
+    told-thousandths h first q₂ side =
+        told-within {j = 3} 5 (omega arith) (rw h (told-then (rw h at form) (told-then (rw q₁ at first) (rw (wraps (v .at) 2 a q₁ q₂) at side))))
 
-  pub told-hundredths : v .form ≡ 1 → Told 3 w w′ n m (rec t e (v .form) 0 (v .«form_at») ∷ rec (t + 2) e (v .first) 0 (v .«first_at») ∷ rec (t + 3) e (v .second) 0 (v .«second_at») ∷ []) → Told 4 w w′ n m (formRecs t v e)
-  told-hundredths h p = told-within {j = 3} 4 (omega arith) (rw (second-numbers t e v (v .form) h) p)
+    module _ (first : Told 1 w₁ w₂ n₁ n₂ (rec (t + 2) e (v .form .first) 0 p₁ ∷ [])) (q₂ : p₂ ≡ (p₁ + d) % 2 ^ 64) where
+      pub told-hundredths : {w₄ : List ℕ} {n₄ p₃ : ℕ} → v .form .form ≡ 1 → Told 1 w₂ w₃ n₂ n₃ (rec (t + 3) e (v .form .second) 0 p₂ ∷ []) → p₃ ≡ (p₂ + 13) % 2 ^ 64 → Told 1 w₃ w₄ n₃ n₄ (rec (t + 6) e (v .side) 0 p₃ ∷ [])
+          → Told 5 w w₄ n n₄ (angleRecs a d t v e)
+      unfolding angleRecs word
+      told-hundredths h second q₃ side =
+          let r = wraps (v .at) 2 d q₁ q₂ in
+          let s = wraps (v .at) (2 + d) 13 r q₃ in
+          told-within {j = 4} 5 (omega arith) (rw h (told-then (rw h at form) (told-then (rw q₁ at first) (told-then (rw r at second) (rw s at side)))))
 
-  pub told-seconds : (v .form ≡ 0 → ⊥) → (v .form ≡ 1 → ⊥) → Told 4 w w′ n m (rec t e (v .form) 0 (v .«form_at») ∷ rec (t + 2) e (v .first) 0 (v .«first_at») ∷ rec (t + 4) e (v .second) 0 (v .«second_at») ∷ rec (t + 5) e (v .third) 0 (v .«third_at») ∷ []) → Told 4 w w′ n m (formRecs t v e)
-  told-seconds h i p = rw (third-numbers t e v (v .form) h i) p
+      pub told-seconds : {w₄ w₅ : List ℕ} {n₄ n₅ p₃ p₄ : ℕ} → (v .form .form ≡ 0 → ⊥) → (v .form .form ≡ 1 → ⊥) → Told 1 w₂ w₃ n₂ n₃ (rec (t + 4) e (v .form .second) 0 p₂ ∷ []) → p₃ ≡ (p₂ + 6) % 2 ^ 64 → Told 1 w₃ w₄ n₃ n₄ (rec (t + 5) e (v .form .third) 0 p₃ ∷ [])
+          → p₄ ≡ (p₃ + 6) % 2 ^ 64 → Told 1 w₄ w₅ n₄ n₅ (rec (t + 6) e (v .side) 0 p₄ ∷ []) → Told 5 w w₅ n n₅ (angleRecs a d t v e)
+      unfolding angleRecs word
+      told-seconds h i second q₃ third q₄ side =
+          let r = wraps (v .at) 2 d q₁ q₂ in
+          let r₃ = wraps (v .at) (2 + d) 6 r q₃ in
+          let s = wraps (v .at) (2 + d + 6) 6 r₃ q₄ in
+          rw (seconds-behind (v .form .form) h i) (told-then form (told-then (rw q₁ at first) (told-then (rw r at second) (told-then (rw r₃ at third) (rw s at side)))))

@@ -1,50 +1,65 @@
 // The records of latitudes and longitudes, put into the lent words behind the first n.
 ghost use Prim.Native.Nat.{_<_, _^_};
 ghost use Rattle.records.specs.Told.{Told};
-ghost use Rattle.angles.specs.Angles.{formRecs, angleRecs, unlessAbsent, pairRecs, maybePairRecs};
+ghost use Rattle.angles.specs.Angles.{angleRecs, unlessAbsent, pairRecs, maybePairRecs};
 use angles::Angle;
-use angles::Form;
 use angles::MaybeAngle;
 use angles::MaybePair;
 use angles::Pair;
 use records::emit;
 
-// The seven tags of an angle follow one another, from `tag` on.
-fn tell_form(words: &mut [u64], n: usize, element: u64, tag: u64, x: Form) -> usize
+// The seven tags of an angle follow one another, from `tag` on, and so do its places: the form takes 2 bits, `thousandths` and `degrees` say what those take, the hundredths take 13, the minutes and the seconds 6 each.
+fn tell_angle(
+    words: &mut [u64],
+    n: usize,
+    element: u64,
+    tag: u64,
+    thousandths: usize,
+    degrees: usize,
+    x: Angle,
+) -> usize
     requires { ⌜ (n < 2 ^ 31) × (tag < 256) ⌝ }
-    ensures { λ m. ⌜ Told 4 (now (words .entry)) (now (words .exit)) n m (formRecs tag x element) ⌝ }
-{
-    let m = emit(words, n, tag, element, x.form, 0, x.form_at);
-    if x.form == 0 {
-        return emit(words, m, tag + 1, element, x.first, 0, x.first_at);
-    }
-    if x.form == 1 {
-        let a = emit(words, m, tag + 2, element, x.first, 0, x.first_at);
-        return emit(words, a, tag + 3, element, x.second, 0, x.second_at);
-    }
-    let a = emit(words, m, tag + 2, element, x.first, 0, x.first_at);
-    let b = emit(words, a, tag + 4, element, x.second, 0, x.second_at);
-    emit(words, b, tag + 5, element, x.third, 0, x.third_at)
-}
-
-fn tell_angle(words: &mut [u64], n: usize, element: u64, tag: u64, x: Angle) -> usize
-    requires { ⌜ (n < 2 ^ 31) × (tag < 256) ⌝ }
-    ensures { λ m. ⌜ Told 5 (now (words .entry)) (now (words .exit)) n m (angleRecs tag x element) ⌝ }
+    ensures { λ m. ⌜ Told 5 (now (words .entry)) (now (words .exit)) n m (angleRecs thousandths degrees tag x element) ⌝ }
 {
     let form = x.form;
-    let m = tell_form(words, n, element, tag, form);
-    emit(words, m, tag + 6, element, x.side, 0, x.side_at)
+    let m = emit(words, n, tag, element, form.form, 0, x.at);
+    let first_at = std::num::wrapping_add_usize(x.at, 2);
+    if form.form == 0 {
+        let a = emit(words, m, tag + 1, element, form.first, 0, first_at);
+        let side_at = std::num::wrapping_add_usize(first_at, thousandths);
+        return emit(words, a, tag + 6, element, x.side, 0, side_at);
+    }
+    let a = emit(words, m, tag + 2, element, form.first, 0, first_at);
+    let second_at = std::num::wrapping_add_usize(first_at, degrees);
+    if form.form == 1 {
+        let b = emit(words, a, tag + 3, element, form.second, 0, second_at);
+        let side_at = std::num::wrapping_add_usize(second_at, 13);
+        return emit(words, b, tag + 6, element, x.side, 0, side_at);
+    }
+    let b = emit(words, a, tag + 4, element, form.second, 0, second_at);
+    let third_at = std::num::wrapping_add_usize(second_at, 6);
+    let d = emit(words, b, tag + 5, element, form.third, 0, third_at);
+    let side_at = std::num::wrapping_add_usize(third_at, 6);
+    emit(words, d, tag + 6, element, x.side, 0, side_at)
 }
 
-fn tell_maybe_angle(words: &mut [u64], n: usize, element: u64, tag: u64, x: MaybeAngle) -> usize
+fn tell_maybe_angle(
+    words: &mut [u64],
+    n: usize,
+    element: u64,
+    tag: u64,
+    thousandths: usize,
+    degrees: usize,
+    x: MaybeAngle,
+) -> usize
     requires { ⌜ (n < 2 ^ 31) × (tag < 256) ⌝ }
-    ensures { λ m. ⌜ Told 5 (now (words .entry)) (now (words .exit)) n m (unlessAbsent (x .has) (angleRecs tag (x .angle) element)) ⌝ }
+    ensures { λ m. ⌜ Told 5 (now (words .entry)) (now (words .exit)) n m (unlessAbsent (x .has) (angleRecs thousandths degrees tag (x .angle) element)) ⌝ }
 {
     if x.has == 0 {
         return n;
     }
     let angle = x.angle;
-    tell_angle(words, n, element, tag, angle)
+    tell_angle(words, n, element, tag, thousandths, degrees, angle)
 }
 
 pub fn tell_pair(words: &mut [u64], n: usize, element: u64, x: Pair) -> usize
@@ -54,8 +69,8 @@ pub fn tell_pair(words: &mut [u64], n: usize, element: u64, x: Pair) -> usize
     let latitude = x.latitude;
     let longitude = x.longitude;
     let a = emit(words, n, 34, element, 0, 0, x.at);
-    let b = tell_maybe_angle(words, a, element, 35, latitude);
-    tell_maybe_angle(words, b, element, 42, longitude)
+    let b = tell_maybe_angle(words, a, element, 35, 17, 7, latitude);
+    tell_maybe_angle(words, b, element, 42, 18, 8, longitude)
 }
 
 pub fn tell_maybe_pair(words: &mut [u64], n: usize, element: u64, x: MaybePair) -> usize
