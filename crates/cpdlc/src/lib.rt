@@ -15,6 +15,11 @@ use verdicts::after_out;
 // The bytes of the longest frame.
 const LONGEST: usize = 65536;
 
+// A frame of so many bytes seldom has more records than these words hold, sixteen.
+const SHORT: usize = 12;
+
+const FEW_SPARE: usize = 80;
+
 // A frame of a known direction: 0 is the downlink, 1 the uplink.
 pub fn parse_pdus(frame: &[u8], direction: u64, down: &[u8], up: &[u8], words: &mut [u64]) -> Answer
     ensures { λ r. ⌜ Says r (now (words .exit)) (parse-pdus (now (frame .entry)) direction (now (down .entry)) (now (up .entry)) (now (words .entry))) ⌝ }
@@ -27,6 +32,11 @@ pub fn parse_pdus(frame: &[u8], direction: u64, down: &[u8], up: &[u8], words: &
     }
     if 1 < direction {
         return refused(3);
+    }
+    if has_few(frame) {
+        let mut few = [0u64; FEW_SPARE];
+        let v = try_frame(frame, &mut few, direction, down, up);
+        return answer_frame(frame, words, &few, direction, down, up, v);
     }
     let mut spare = [0u64; CPDLC_SPARE];
     let v = try_frame(frame, &mut spare, direction, down, up);
@@ -56,6 +66,15 @@ pub fn parse_apdu(frame: &[u8], down: &[u8], up: &[u8], words: &mut [u64]) -> An
         return answer_frame(frame, words, &spare, 1, down, up, x);
     }
     answer_frame(frame, words, &spare, 0, down, up, v)
+}
+
+// Whether fewer spare words will do: it is a short frame, or its extension bit is set, and then there are three records at
+// most. Nothing but the time rests on it, since a frame whose records do not fit is read again.
+fn has_few(frame: &[u8]) -> bool {
+    if frame.len() <= SHORT {
+        return true;
+    }
+    128 <= frame[0]
 }
 
 // Before anything is read.

@@ -1,6 +1,10 @@
-use mathlib.Core.Path.{refl}
+-- `parse_pdus` meets its contract, with however many spare words.
+use mathlib.Core.Path.{_≡_}
+use Prim.Native.Nat.{_≤_}
 use native.Mathlib.Omega.{arith}
+use lib.ListN.{length}
 use borrow.Author.Needs.{needs}
+use Rattle.atn.specs.Entries.{Outcome, pdus, readFrame, settle, parse-pdus}
 use Rattle.verdicts.proofs.VerdictLaws.{follows-same}
 use Rattle.lent_tables.proofs.TableLaws.{tables-fail, tables-hold, tables-are}
 use Rattle.cpdlc.proofs.EntryLaws.{pdus-long, pdus-tables, pdus-direction, pdus-reads}
@@ -16,20 +20,46 @@ returns-2 c = record { is = rw (c .refused2 .ensures) (pdus-tables _ _ _ _ _ (c 
 returns-3 : tie.Need-returns-3
 returns-3 c = record { is = rw (c .refused3 .ensures) (pdus-direction _ _ _ _ _ (c .before .before .before .before .if1 .left) (tables-hold _ _ (c .before .before .before .tables-fit .ensures) (c .before .before .if2 .left)) (c .before .if3 .taken)) }
 
-try-frame-requires : tie.Need-try-frame-requires
-try-frame-requires c κs =
+-- behind the tests
+tested : (c : tie.After-has-few) →
+    let a = c .before .before .before .before .before .before .before .before .before .args in
+    (length (a .frame .now) ≤ 65536) × (1 ≤ length (a .down .now)) × (length (a .down .now) ≤ 256) × (1 ≤ length (a .up .now)) × (length (a .up .now) ≤ 256) × (a .direction ≤ 1)
+tested c =
     let t = tables-are _ _ (c .before .before .before .tables-fit .ensures) (c .before .before .if2 .left) in
     (c .before .before .before .before .if1 .left, t .0, t .1, t .2, t .3, c .before .if3 .left)
 
+read : (c : tie.After-has-few) {o : Outcome} →
+    let a = c .before .before .before .before .before .before .before .before .before .args in
+    o ≡ settle (readFrame (pdus (a .direction) (a .down .now) (a .up .now)) (a .frame .now)) (a .words .now) → o ≡ parse-pdus (a .frame .now) (a .direction) (a .down .now) (a .up .now) (a .words .now)
+read c e = pdus-reads _ _ _ _ _ (tested c .0) (tables-hold _ _ (c .before .before .before .tables-fit .ensures) (c .before .before .if2 .left)) (c .before .if3 .left) e
+
 answer-frame-requires : tie.Need-answer-frame-requires
 answer-frame-requires c κs =
-    let t = tables-are _ _ (c .before .before .before .before .before .before .before .tables-fit .ensures) (c .before .before .before .before .before .before .if2 .left) in
-    (c .before .before .before .before .before .before .before .before .if1 .left, t .0, t .1, t .2, t .3, c .before .before .before .before .before .if3 .left, omega (arith, c .before .before .before .try-frame .ensures .few))
+    let v = c .before .before .before in
+    let t = tested (v .before .before .before) in
+    (t .0, t .1, t .2, t .3, t .4, t .5, omega (arith, v .try-frame .ensures .few))
 
 returns-4 : tie.Need-returns-4
 returns-4 c =
-    let tried = c .before .before .before .before .before .before .try-frame .ensures in
-    record { is = pdus-reads _ _ _ _ _ (c .before .before .before .before .before .before .before .before .before .before .before .if1 .left) (tables-hold _ _ (c .before .before .before .before .before .before .before .before .before .before .tables-fit .ensures) (c .before .before .before .before .before .before .before .before .before .if2 .left)) (c .before .before .before .before .before .before .before .before .if3 .left) (c .before .before .answer-frame .ensures (tried .keeps) _ (tried .is) (follows-same _) .is) }
+    let v = c .before .before .before .before .before .before in
+    let tried = v .try-frame .ensures in
+    record { is = read (v .before .before .before) (c .before .before .answer-frame .ensures (tried .keeps) _ (tried .is) (follows-same _) .is) }
+
+answer-frame-requires-2 : tie.Need-answer-frame-requires-2
+answer-frame-requires-2 c κs =
+    let v = c .before .before .before in
+    let t = tested (v .before .before .before) in
+    (t .0, t .1, t .2, t .3, t .4, t .5, omega (arith, v .try-frame2 .ensures .few))
+
+returns-5 : tie.Need-returns-5
+returns-5 c =
+    let v = c .before .before .before .before .before .before in
+    let tried = v .try-frame2 .ensures in
+    record { is = read (v .before .before .before) (c .before .before .answer-frame2 .ensures (tried .keeps) _ (tried .is) (follows-same _) .is) }
 
 pub parse-pdus-spec : {M : Type 1} → statement M
-parse-pdus-spec = tie.close (tie.spec (λ c κs. search needs) returns (λ c κs. search needs) (λ c κs. search needs) returns-2 (λ c κs. search needs) returns-3 (λ c. search needs) try-frame-requires (λ c. search needs) answer-frame-requires (λ c. search needs) returns-4)
+parse-pdus-spec =
+    tie.close
+    (tie.spec
+    (λ c κs. search needs) returns (λ c κs. search needs) (λ c κs. search needs) returns-2 (λ c κs. search needs) returns-3 (λ c κs. search needs) (λ c. search needs) (λ c κs. tested (c .before .before))
+    (λ c. search needs) answer-frame-requires (λ c. search needs) returns-4 (λ c. search needs) (λ c κs. tested (c .before .before)) (λ c. search needs) answer-frame-requires-2 (λ c. search needs) returns-5)
