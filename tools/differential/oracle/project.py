@@ -61,14 +61,16 @@ def write(path, text):
     path.write_text(text)
 
 
-def build(out, programs, profile="", flags=""):
-    """Build the programs, by name, and put each into `out`; `profile` goes to the manifest, `flags` to rustc."""
+def build(out, programs, profile="", flags="", target=None):
+    """Build the programs, by name, and put each into `out`; `profile` goes to the manifest, `flags` to rustc; for another machine
+    than this one if `target` names it."""
     write(out / "Cargo.toml", MANIFEST + profile + "".join(PROGRAM.format(name=name) for name in programs))
     write(out / ".cargo" / "config.toml", CONFIG.format(registry=REGISTRY))
     for name, text in programs.items():
         write(out / f"{name}.rs", text)
     # What the substitutions leave unused is no fault.
     environment = dict(os.environ, RUSTFLAGS=f"-A dead_code {flags}".strip())
-    subprocess.run(["cargo", "build", "--release", "--offline", "--quiet"], cwd=out, env=environment, check=True)
+    command = ["cargo", "build", "--release", "--offline", "--quiet", *(["--target", target] if target else [])]
+    subprocess.run(command, cwd=out, env=environment, check=True)
     for name in programs:
-        shutil.copy2(out / "target" / "release" / name, out / name)
+        shutil.copy2(out / "target" / (target or "") / "release" / name, out / name)
