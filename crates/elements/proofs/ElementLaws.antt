@@ -1,28 +1,28 @@
 -- The elements: an index into the lent table, then the argument that its byte names.
 use mathlib.Core.Path.{_≡_, refl, sym, ap, _∙_}
-use mathlib.Core.Bool.{true, false}
+use mathlib.Core.Bool.{false}
 use mathlib.Core.List.{List, [], _∷_}
 use Prim.Native.Nat.{ℕ, zero, suc, _+_, _-_, _*_, _≤_, _<_}
 use native.Mathlib.Omega.{arith}
 use lib.ListN.{length, getD}
 use Rattle.x691.specs.Bits.{bitOf}
 use Rattle.x691.specs.Encoding.{width, count, highest}
-use Rattle.atn.specs.Format.{Fmt, bad, choice, alternativesOf}
-use Rattle.atn.specs.Messages.{arguments, noReader, argumentOf, elements}
+use Rattle.atn.specs.Format.{bad, alternativesOf}
+use Rattle.atn.specs.Messages.{argumentOf, elements}
 use Rattle.atn.specs.Reading.{Rec, rec, Ctx, Ans, ok, stop, then, or, mark, times, laxly, pull, read, readChoice}
 use Rattle.atn.proofs.Tame.{tame}
 use Rattle.atn.proofs.Firm.{isPast, firm-read}
 use Rattle.atn.proofs.Elements.{elements-firm}
 use Rattle.cursor.specs.declared.place.Cursor.{Cursor}
 use Rattle.cursor.specs.declared.place.Got.{Got}
-use Rattle.cursor.specs.Place.{put, stopped, Inside, Pulls, Reads, Takes}
+use Rattle.cursor.specs.Place.{put, stopped, Pulls, Takes}
 use Rattle.cursor.proofs.Laws.{reads-ok, marked-nil}
 use Rattle.ranged_numbers.proofs.ChoiceLaws.{takes-unlisted}
 use Rattle.records.specs.Told.{Told}
 use Rattle.records.proofs.Telling.{told-none, told-length}
 use Rattle.runs.specs.declared.At.{At}
 use Rattle.runs.specs.Runs.{Runs}
-use Rattle.runs.proofs.RunLaws.{runs-then, runs-same, runs-told, runs-untold, runs-stayed, runs-silent, runs-within, runs-pull, dropped, led-lax, led-lax-lack, ran-lax}
+use Rattle.runs.proofs.RunLaws.{runs-then, runs-same, runs-told, runs-untold, runs-stayed, runs-silent, runs-within, runs-pull, led-lax, led-lax-lack, ran-lax}
 use Rattle.argument_values.specs.Arguments.{argumentBody}
 use Rattle.elements.specs.Elements.{argumentAt, elementFormat, elementAt, elementsAt}
 

@@ -1,12 +1,12 @@
 -- Laws of the numbers that bits spell, each for every width.
-use mathlib.Core.Path.{_≡_, refl, ap, _∙_}
+use mathlib.Core.Path.{_≡_, refl, ap}
 use mathlib.Core.Bool.{Bool, true, false}
 use mathlib.Core.List.{List}
 use Prim.Native.Nat.{ℕ, zero, suc, _+_, _-_, _*_, _/_, _%_, _^_, _≤_, _<_}
 use native.Mathlib.Nat.{one-mul, mod-eq-of-lt, pow-suc, pow-le-pow-right, add-zero, add-suc, add-assoc, mul-assoc}
 use native.Mathlib.Numerals.{add-one}
 use native.Mathlib.Omega.{arith}
-use lib.ListN.{length, getD, take, drop, List·getD-eq-default}
+use lib.ListN.{getD, take, drop}
 use lib.Seq.{getD-take, getD-drop}
 use lib.Dec.{leb, lit<}
 use lib.Pow.{mod-pow-add, shr-shr, high, low, pow-lt, pow-pos}

@@ -7,7 +7,7 @@ use Rattle.x691.specs.Types.{extent}
 use Rattle.x691.specs.Bits.{bitOf}
 use Rattle.x691.specs.Encoding.{width}
 use Rattle.atn.specs.Format.{Fmt, num}
-use Rattle.atn.specs.Reading.{Rec, Ans, ok, word, read}
+use Rattle.atn.specs.Reading.{Rec, Ans, word, read}
 use Rattle.atn.proofs.Inverse.{pull-inv}
 use Rattle.cursor.specs.declared.place.Cursor.{Cursor}
 use Rattle.cursor.specs.declared.place.Got.{Got}

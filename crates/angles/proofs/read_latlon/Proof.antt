@@ -1,4 +1,3 @@
-use mathlib.Core.Path.{refl}
 use borrow.Author.Needs.{needs}
 use Rattle.x691.specs.Types.{extent}
 use Rattle.x691.specs.Encoding.{width, widthIn}

@@ -1,6 +1,6 @@
 -- `emit` meets its contract. Where the words end before the record's end, nothing is written.
 use borrow.Author.Needs.{needs}
-use Prim.Native.Nat.{ℕ, _+_, _≤_, _<_}
+use Prim.Native.Nat.{ℕ, _+_}
 use mathlib.Core.Path.{_≡_}
 use native.Mathlib.Omega.{arith}
 use Rattle.atn.specs.Entries.{need}
