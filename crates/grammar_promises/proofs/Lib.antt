@@ -1,2 +1,16 @@
 pub mod Agreement
 pub mod WorkedLists
+pub mod States
+pub mod Verdicts
+pub mod Steps
+pub mod Characters
+pub mod Texts
+pub mod Channels
+pub mod Goes
+pub mod Answers
+pub mod Lists
+pub mod Leaves
+pub mod Lent
+pub mod Follows
+pub mod Reached
+pub mod Accepted
