@@ -1,12 +1,15 @@
 // CPDLC: `parse_pdus` and `parse_apdu`. A frame is read into spare words first, so that a refusal leaves the lent ones and the number of records is known before any is written.
 ghost use mathlib.Core.Path.{_≡_};
-ghost use Rattle.atn.specs.Entries.{parse-pdus, parse-apdu};
+ghost use Prim.Native.Nat.{_≤_};
+ghost use lib.ListN.{length};
+ghost use Rattle.atn.specs.Entries.{parse-pdus, parse-apdu, pdus, readFrame, settle};
 ghost use Rattle.answers.specs.Says.{Says};
 ghost use Rattle.answers.specs.declared.Answer.the-variants.{Refused};
 use answers::Answer;
 use cpdlc_frames::answer_frame;
 use cpdlc_frames::try_frame;
 use lent_tables::tables_fit;
+use per::number::uint;
 use spare_words::CPDLC_SPARE;
 use verdicts::Verdict;
 use verdicts::after_bad;
@@ -19,6 +22,11 @@ const LONGEST: usize = 65536;
 const SHORT: usize = 12;
 
 const FEW_SPARE: usize = 80;
+
+// A frame of so many bytes may have many records, and these words hold 1,638.
+const LONG: usize = 128;
+
+const MANY_SPARE: usize = 8192;
 
 // A frame of a known direction: 0 is the downlink, 1 the uplink.
 pub fn parse_pdus(frame: &[u8], direction: u64, down: &[u8], up: &[u8], words: &mut [u64]) -> Answer
@@ -38,9 +46,28 @@ pub fn parse_pdus(frame: &[u8], direction: u64, down: &[u8], up: &[u8], words: &
         let v = try_frame(frame, &mut few, direction, down, up);
         return answer_frame(frame, words, &few, direction, down, up, v);
     }
+    if direction == 0 {
+        if has_many(frame, 3) {
+            return parse_long(frame, direction, down, up, words);
+        }
+    } else {
+        if has_many(frame, 4) {
+            return parse_long(frame, direction, down, up, words);
+        }
+    }
     let mut spare = [0u64; CPDLC_SPARE];
     let v = try_frame(frame, &mut spare, direction, down, up);
     answer_frame(frame, words, &spare, direction, down, up, v)
+}
+
+// The same with many spare words. It is called twice so that it stays a function of its own, and other frames do without its stack.
+fn parse_long(frame: &[u8], direction: u64, down: &[u8], up: &[u8], words: &mut [u64]) -> Answer
+    requires { ⌜ (length (now frame) ≤ 65536) × (1 ≤ length (now down)) × (length (now down) ≤ 256) × (1 ≤ length (now up)) × (length (now up) ≤ 256) × (direction ≤ 1) ⌝ }
+    ensures { λ r. ⌜ Says r (now (words .exit)) (settle (readFrame (pdus direction (now (down .entry)) (now (up .entry))) (now (frame .entry))) (now (words .entry))) ⌝ }
+{
+    let mut many = [0u64; MANY_SPARE];
+    let v = try_frame(frame, &mut many, direction, down, up);
+    answer_frame(frame, words, &many, direction, down, up, v)
 }
 
 // A frame of either direction: the downlink is read first, and the uplink where that is refused with 4 or 5.
@@ -75,6 +102,20 @@ fn has_few(frame: &[u8]) -> bool {
         return true;
     }
     128 <= frame[0]
+}
+
+// Whether more spare words are worth the time to clear them: the frame is long, and where its choice may name a protected
+// message, from `at` on, that holds a message of 1,024 bits or more. Nothing but the time rests on it.
+fn has_many(frame: &[u8], at: usize) -> bool {
+    if frame.len() <= LONG {
+        return false;
+    }
+    // no extension, no algorithm, a message; then two octets of its length
+    let head = uint(frame, at, 19);
+    if head < 0x1_8400 {
+        return false;
+    }
+    head < 0x1_c000
 }
 
 // Before anything is read.

@@ -34,10 +34,23 @@ module _ (s : List ℕ) (f at len w c : ℕ) where
   unfolding from counted
   from-spaced = ap spaced (units-all true)
 
+-- a text's characters
+abbrev pub sevensOf : Text → Run
+sevensOf x = record { from = x .from; at = x .at; len = x .len; width = 7; first = 0; spaced = false }
+
+module _ (s : List ℕ) (x : Text) (i : ℕ) where
+  pub sevens-counted : counted s (sevensOf x) i ≡ units (bitOf s) 7 (x .at + i * 7) (x .len - i)
+  unfolding counted
+  sevens-counted = coded-nil (units (bitOf s) 7 (x .at + i * 7) (x .len - i))
+
+  pub sevens-from : from s (sevensOf x) i ≡ units (bitOf s) 7 (x .at + i * 7) (x .len - i)
+  unfolding from
+  sevens-from = sevens-counted
+
 ---------------------------------------------------------------- where they stand
 
 module _ {s : List ℕ} {x : Text} where
-  pub spelt-text : InFrame 7 s x → Spelt s (run s (x .from) (x .at) (x .len) 7 0 false)
+  pub spelt-text : InFrame 7 s x → Spelt s (sevensOf x)
   spelt-text h = record { there = h .there; fits = h .fits; narrow = omega arith; octet = omega arith; numeric = λ q. absurd (let z : _≡_ {A = ℕ} 0 1 = cc in omega arith) }
 
   pub spelt-channel : (t : Bool) → InFrame 4 s x → Spelt s (run s (x .from) (x .at) (x .len) 4 48 t)
@@ -54,7 +67,7 @@ module _ (s : List ℕ) (x : Text) where
   Tells b t e w w′ n m = Told ((x .len + 7) / 8) w w′ n m (pack t e (x .from) (from s (record { from = x .from; at = x .at; len = x .len; width = 4; first = 48; spaced = b }) 0))
 
 module _ (t e : ℕ) (s : List ℕ) (x : Text) {w w′ : List ℕ} {n m : ℕ} where
-  pub told-text : x .len < 512 → Told ((x .len + 7) / 8) w w′ n m (pack t e (x .from) (from s (record { from = x .from; at = x .at; len = x .len; width = 7; first = 0; spaced = false }) 0)) → Told 64 w w′ n m (textRecs t e s x)
+  pub told-text : x .len < 512 → Told ((x .len + 7) / 8) w w′ n m (pack t e (x .from) (from s (sevensOf x) 0)) → Told 64 w w′ n m (textRecs t e s x)
   unfolding textRecs
   told-text h p = told-within 64 (omega arith) (rw (from-coded s (x .from) (x .at) (x .len) 7 0, coded-nil (units (bitOf s) 7 (x .at) (x .len))) at p)
 

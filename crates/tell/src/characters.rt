@@ -64,7 +64,7 @@ fn eight(s: &[u8], r: Run, i: usize) -> u64
     (v + r.first * (ONES >> missing)) << missing
 }
 
-fn at_most_eight(n: usize) -> usize
+pub fn at_most_eight(n: usize) -> usize
     ensures { λ k. ⌜ k ≡ min 8 n ⌝ }
 {
     if n < 8 {

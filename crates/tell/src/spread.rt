@@ -3,14 +3,11 @@ ghost use mathlib.Core.Path.{_≡_};
 ghost use Prim.Native.Nat.{_*_, _^_, _≤_, _<_};
 ghost use Rattle.tell.specs.Characters.{widened};
 
-// Eight characters of `width` bits. Those of seven, which are nearly all, are done at once, the others one by one.
+// Eight characters of `width` bits, one by one.
 pub fn spread(v: u64, width: usize) -> u64
     requires { ⌜ (width ≤ 8) × (v < 2 ^ (8 * width)) ⌝ }
     ensures { λ r. ⌜ r ≡ widened width 8 8 v ⌝ }
 {
-    if width == 7 {
-        return spread_sevens(v);
-    }
     let mut r: u64 = 0;
     let mut k: usize = 8;
     while k > 0 {
@@ -20,9 +17,9 @@ pub fn spread(v: u64, width: usize) -> u64
     r
 }
 
-// Eight characters of seven bits. They are halved three times: into fours, these into twos, and these into single ones.
+// Eight characters of seven bits, which nearly all have, at once. They are halved three times: into fours, these into twos, and these into single ones.
 // Each time the higher halves, which a mask finds, move up to make room: by four bits, by two and by one.
-fn spread_sevens(v: u64) -> u64
+pub fn spread_sevens(v: u64) -> u64
     requires { ⌜ v < 2 ^ 56 ⌝ }
     ensures { λ r. ⌜ r ≡ widened 7 8 8 v ⌝ }
 {

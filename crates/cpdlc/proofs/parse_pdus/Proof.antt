@@ -45,21 +45,35 @@ returns-4 c =
     let tried = v .try-frame .ensures in
     record { is = read (v .before .before .before) (c .before .before .answer-frame .ensures (tried .keeps) _ (tried .is) (follows-same _) .is) }
 
+parse-long-requires : tie.Need-parse-long-requires
+parse-long-requires c κs = tested (c .before .before .before .before .before)
+
+returns-5 : tie.Need-returns-5
+returns-5 c = record { is = read (c .before .before .before .before .before .before .before .before) (c .before .before .parse-long .ensures .is) }
+
+parse-long-requires-2 : tie.Need-parse-long-requires-2
+parse-long-requires-2 c κs = tested (c .before .before .before .before .before)
+
+returns-6 : tie.Need-returns-6
+returns-6 c = record { is = read (c .before .before .before .before .before .before .before .before) (c .before .before .parse-long2 .ensures .is) }
+
 answer-frame-requires-2 : tie.Need-answer-frame-requires-2
 answer-frame-requires-2 c κs =
     let v = c .before .before .before in
-    let t = tested (v .before .before .before) in
+    let t = tested (v .before .before .before .before) in
     (t .0, t .1, t .2, t .3, t .4, t .5, omega (arith, v .try-frame2 .ensures .few))
 
-returns-5 : tie.Need-returns-5
-returns-5 c =
+returns-7 : tie.Need-returns-7
+returns-7 c =
     let v = c .before .before .before .before .before .before in
     let tried = v .try-frame2 .ensures in
-    record { is = read (v .before .before .before) (c .before .before .answer-frame2 .ensures (tried .keeps) _ (tried .is) (follows-same _) .is) }
+    record { is = read (v .before .before .before .before) (c .before .before .answer-frame2 .ensures (tried .keeps) _ (tried .is) (follows-same _) .is) }
 
 pub parse-pdus-spec : {M : Type 1} → statement M
 parse-pdus-spec =
     tie.close
     (tie.spec
     (λ c κs. search needs) returns (λ c κs. search needs) (λ c κs. search needs) returns-2 (λ c κs. search needs) returns-3 (λ c κs. search needs) (λ c. search needs) (λ c κs. tested (c .before .before))
-    (λ c. search needs) answer-frame-requires (λ c. search needs) returns-4 (λ c. search needs) (λ c κs. tested (c .before .before)) (λ c. search needs) answer-frame-requires-2 (λ c. search needs) returns-5)
+    (λ c. search needs) answer-frame-requires (λ c. search needs) returns-4
+    (λ c κs. search needs) parse-long-requires (λ c. search needs) returns-5 (λ c κs. search needs) parse-long-requires-2 (λ c. search needs) returns-6
+    (λ c. search needs) (λ c κs. tested (c .before .before .before)) (λ c. search needs) answer-frame-requires-2 (λ c. search needs) returns-7)

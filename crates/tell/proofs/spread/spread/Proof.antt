@@ -37,47 +37,41 @@ module _ {v w k r : ℕ} (narrow : w ≤ 8) (some : 0 < k) (p : Above v w k r) w
   next-fits : r * 256 + v / 2 ^ ((k - 1) * w) % (1 * 2 ^ w % 2 ^ 64) < 2 ^ 64
   next-fits = omega (arith, next, widened-below w 8 (8 - (k - 1)) (v / 2 ^ ((k - 1) * w)) narrow, pow-mono {i = 8 * (8 - (k - 1))} {j = 64} (omega arith))
 
-spread-sevens-requires : tie.Need-spread-sevens-requires Inv-loop μ-loop
-spread-sevens-requires c κs = rw (c .if1 .taken) at (c .before .pre .1)
-
-returns : tie.Need-returns Inv-loop μ-loop
-returns c = rw (c .before .if1 .taken) (c .spread-sevens .ensures)
-
 loop-holds : tie.Need-loop-holds Inv-loop μ-loop
 unfolding widened
 loop-holds c = record { few = lit≤ tt; sum = refl }
 
 mul-r : tie.Need-mul-r Inv-loop μ-loop
-mul-r c = omega (arith, next-fits (c .before .before .before .pre .0) (c .loop-test .taken) (c .before .loop .inv))
+mul-r c = omega (arith, next-fits (c .before .before .pre .0) (c .loop-test .taken) (c .before .loop .inv))
 
 mul-r-2 : tie.Need-mul-r-2 Inv-loop μ-loop
-mul-r-2 c = omega (arith, place (c .before .before .before .pre .0) (c .loop-test .taken) (c .before .loop .inv))
+mul-r-2 c = omega (arith, place (c .before .before .pre .0) (c .loop-test .taken) (c .before .loop .inv))
 
 shr-r : tie.Need-shr-r Inv-loop μ-loop
-shr-r c = omega (arith, place (c .before .before .before .pre .0) (c .loop-test .taken) (c .before .loop .inv))
+shr-r c = omega (arith, place (c .before .before .pre .0) (c .loop-test .taken) (c .before .loop .inv))
 
 shl-r : tie.Need-shl-r Inv-loop μ-loop
-shl-r c = omega (arith, c .before .before .before .pre .0)
+shl-r c = omega (arith, c .before .before .pre .0)
 
 rem-r : tie.Need-rem-r Inv-loop μ-loop
-rem-r c = one-shl-pos (c .before .before .before .args .width) (omega (arith, c .before .before .before .pre .0))
+rem-r c = one-shl-pos (c .before .before .args .width) (omega (arith, c .before .before .pre .0))
 
 add-r : tie.Need-add-r Inv-loop μ-loop
-add-r c = omega (arith, next-fits (c .before .before .before .pre .0) (c .loop-test .taken) (c .before .loop .inv))
+add-r c = omega (arith, next-fits (c .before .before .pre .0) (c .loop-test .taken) (c .before .loop .inv))
 
 loop-again : tie.Need-loop-again Inv-loop μ-loop
 loop-again c =
     record {
       few = omega (arith, c .before .loop .inv .few);
-      sum = next (c .before .before .before .pre .0) (c .loop-test .taken) (c .before .loop .inv);
+      sum = next (c .before .before .pre .0) (c .loop-test .taken) (c .before .loop .inv);
     }
 
-returns-2 : tie.Need-returns-2 Inv-loop μ-loop
-returns-2 c =
+returns : tie.Need-returns Inv-loop μ-loop
+returns c =
     let e : c .before .loop .k ≡ 0 = omega (arith, c .loop-test .left) in
-    rw (e, zero-mul (c .before .before .before .args .width), div-one (c .before .before .before .args .v)) at (c .before .loop .inv .sum)
+    rw (e, zero-mul (c .before .before .args .width), div-one (c .before .before .args .v)) at (c .before .loop .inv .sum)
 
 pub spread-spec : {M : Type 1} → statement M
 spread-spec =
     tie.close
-    (tie.spec Inv-loop μ-loop spread-sevens-requires returns loop-holds (λ c. search needs) mul-r mul-r-2 shr-r shl-r rem-r add-r (λ c. omega arith) loop-again returns-2)
+    (tie.spec Inv-loop μ-loop loop-holds (λ c. search needs) mul-r mul-r-2 shr-r shl-r rem-r add-r (λ c. omega arith) loop-again returns)
