@@ -16,6 +16,7 @@ use Rattle.atn.specs.Messages.{acse, release, abort, extended}
 use Rattle.atn.specs.Tags as tag
 use Rattle.atn.proofs.Marks.{or-nil}
 use Rattle.atn.proofs.Steps.{glue-nil}
+use Rattle.atn.proofs.Then.{glue-glue}
 use Rattle.cursor.specs.declared.place.Cursor.{Cursor}
 use Rattle.cursor.specs.declared.place.Got.{Got}
 use Rattle.cursor.specs.Place as place
@@ -26,7 +27,7 @@ use Rattle.acse_apdus.specs.declared.Apdu.the-variants.{RanOut, Badly}
 use Rattle.acse_reasons.specs.SoFar.{soFar}
 use Rattle.acse_bodies.specs.Bodies.{bodies, bodyRecs, Chosen, unreadBody}
 use Rattle.acse_apdus.specs.Apdus.{heardOf, replyOf, Hears}
-use Rattle.acse_reasons.proofs.GrowLaws.{by-why, so-far-on, so-far-off, so-far-same, glue-glue, pulled-step, pulled-inside}
+use Rattle.acse_reasons.proofs.GrowLaws.{by-why, so-far-on, so-far-off, so-far-same, pulled-step, pulled-inside}
 
 ---------------------------------------------------------------- what becomes of a body
 
@@ -97,7 +98,7 @@ body-reply s c o i r l z y t =
     let Q : List Rec = rec tag.acse-pdu 0 i 0 o ∷ [] in
     let a : Ans = readChoice bodies i (0, 0) (bitOf s) (c .end) (c .at) in
     let h : glue Q (c .marks) a ≡ soFar (r .c) (Q ++ bodyRecs r) = rw (so-far-on c Q z) at (t .grows .grew y .gives Q) in
-    rw (going c (λ p. Index s o i (c .end) p) z, pdu-body i (bitOf s) (c .end) (c .at) l, ← (glue-glue [] (c .marks) Q 0 (softly 7 true a)), or-nil (c .marks))
+    rw (going c (λ p. Index s o i (c .end) p) z, pdu-body i (bitOf s) (c .end) (c .at) l, ← (glue-glue [] Q (c .marks) 0 (softly 7 true a)), or-nil (c .marks))
     (soft-reply a Q (Q ++ bodyRecs r) (c .marks) (r .c) h)
 
 module _ {s : List ℕ} {g : Got} (x : Pulls s (start s) 1 g) where

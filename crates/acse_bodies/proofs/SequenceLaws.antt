@@ -1,7 +1,7 @@
 -- Grows of the two sequences that have one presence bit.
 use mathlib.Core.Path.{_≡_, refl, sym, ap, _∙_}
 use mathlib.Core.Bool.{Bool, true, false, cond}
-use mathlib.Core.List.{List, [], _∷_, _++_, append-nil}
+use mathlib.Core.List.{List, [], _∷_, _++_}
 use Prim.Native.Nat.{ℕ, _+_, _-_, _≤_, _<_}
 use native.Mathlib.Omega.{arith}
 use lib.Dec.{leb, eqb}
@@ -9,9 +9,9 @@ use borrow.Author.Tests.{leb-true, leb-false}
 use Rattle.x691.specs.Bits.{bitOf}
 use Rattle.x691.proofs.BitLaws.{uint-one}
 use Rattle.atn.specs.Format.{Fmt, out, seq, Flds, orNote, end, _⨾_, _⨾?_}
-use Rattle.atn.specs.Reading.{Rec, rec, Ans, ok, past, stop, glue, late, then, fork, or, fetch, pull, flags, unreadMarks, within, read, readFields}
-use Rattle.atn.proofs.Marks.{or-nil}
+use Rattle.atn.specs.Reading.{Rec, rec, Ans, ok, stop, glue, then, fork, or, fetch, pull, flags, unreadMarks, within, read, readFields}
 use Rattle.atn.proofs.Steps.{then-nil, fetch-go, fetch-no, pull-go, pull-no}
+use Rattle.atn.proofs.Then.{then-end}
 use Rattle.cursor.specs.declared.place.Cursor.{Cursor}
 use Rattle.cursor.specs.declared.place.Got.{Got}
 use Rattle.cursor.specs.Place.{Pulls}
@@ -19,13 +19,6 @@ use Rattle.cursor.proofs.Laws.{Behind, marked-nil}
 use Rattle.acse_reasons.specs.SoFar.{Grows, Keeps}
 use Rattle.acse_reasons.proofs.GrowLaws.{grows-then, grows-same, grows-here, grows-pull}
 use Rattle.acse_reasons.proofs.FormatLaws.{Read, fork-set}
-
--- nothing follows
-then-end : (a : Ans) → then a (λ p. ok p [] 0) ≡ a
-unfolding then glue late
-then-end (ok p R m) = rw (append-nil R, or-nil m)
-then-end (past lacked p R m) = rw (append-nil R, or-nil m)
-then-end (stop w p R m) = refl
 
 -- the presence bit is pulled like any other: where it is not there, the window ends at its place
 module _ (fs : Flds) (b : ℕ → ℕ) (e at : ℕ) (one : flags fs ≡ 1) (plain : (c : ℕ → ℕ) → unreadMarks fs c at ≡ 0) (i : at ≤ e) (K : ℕ → Ans) where

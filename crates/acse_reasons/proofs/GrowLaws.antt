@@ -8,9 +8,10 @@ use lib.Dec.{eqb}
 use borrow.Author.Tests.{eq-eqb, ne-eqb}
 use Rattle.x691.specs.Bits.{bitOf}
 use Rattle.atn.specs.Format.{out, bad, lack, quit}
-use Rattle.atn.specs.Reading.{Rec, Ans, ok, past, stop, glue, late, then, or, pull}
-use Rattle.atn.proofs.Marks.{or-assoc, or-nil}
+use Rattle.atn.specs.Reading.{Rec, Ans, ok, past, stop, glue, then, or, pull}
+use Rattle.atn.proofs.Marks.{or-nil}
 use Rattle.atn.proofs.Steps.{pull-go, pull-no}
+use Rattle.atn.proofs.Then.{glue-then}
 use Rattle.cursor.specs.declared.place.Cursor.{Cursor}
 use Rattle.cursor.specs.declared.place.Got.{Got}
 use Rattle.cursor.specs.Place.{number, put, stopped, marked, Inside, Pulled, stuck, short, got, Pulls, Led, stayed, went, failed, Reads}
@@ -41,25 +42,6 @@ unfolding then
 so-far-same c Q k l h = by-why c (λ z. rw (so-far-on c Q z, h z)) (λ n. rw (so-far-off c Q n))
 
 ---------------------------------------------------------------- one after another
-
-module _ (R : List Rec) (m : ℕ) where
-  pub glue-glue : (S : List Rec) (n : ℕ) (a : Ans) → glue (R ++ S) (or m n) a ≡ glue R m (glue S n a)
-  unfolding glue
-  glue-glue S n (ok p T l) = rw (append-assoc R S T, or-assoc m n l)
-  glue-glue S n (past lacked p T l) = rw (append-assoc R S T, or-assoc m n l)
-  glue-glue S n (stop w p T l) = rw (append-assoc R S T, or-assoc m n l)
-
-  late-glue : (i : ℕ) (S : List Rec) (n : ℕ) (a : Ans) → late i (R ++ S) (or m n) a ≡ glue R m (late i S n a)
-  unfolding glue late
-  late-glue i S n (ok p T l) = rw (append-assoc R S T, or-assoc m n l)
-  late-glue i S n (past lacked p T l) = rw (append-assoc R S T, or-assoc m n l)
-  late-glue i S n (stop w p T l) = rw (append-assoc R S T, or-assoc m n l)
-
-  glue-then : (a : Ans) (l : ℕ → Ans) → then (glue R m a) l ≡ glue R m (then a l)
-  unfolding then glue
-  glue-then (ok p S n) l = glue-glue S n (l p)
-  glue-then (past lacked p S n) l = late-glue lacked S n (l p)
-  glue-then (stop w p S n) l = refl
 
 so-far-then : (c : Cursor) (Q : List Rec) (k l : ℕ → Ans) → then (soFar c Q) (λ p. then (k p) l) ≡ then (then (soFar c Q) k) l
 unfolding then

@@ -1,9 +1,8 @@
 -- Formats whose reading never gives up a part with all that follows it: a lax part does, and what an inner string holds of them is shut in.
 use mathlib.Core.Path.{_≡_, refl}
-use mathlib.Core.Bool.{Bool, true, false}
+use mathlib.Core.Bool.{Bool, true, false, false≢true}
 use mathlib.Core.List.{List}
 use Prim.Native.Nat.{ℕ}
-use native.Mathlib.Omega.{arith}
 use Rattle.atn.specs.Format.{Fmt, Why, out, bad, lack, quit}
 use Rattle.atn.specs.Reading.{Rec, Ctx, Ans, ok, past, stop, glue, tardy, late, then, close, shut, softly, passOver, read}
 use Rattle.atn.proofs.Tame.{Kind, keepsStop, tame, Keeps, tame-read}
@@ -28,9 +27,6 @@ calmly = record { looses = true; softs = true; laxes = false; quits = false; out
 abbrev pub calm : Fmt → Bool
 calm f = tame calmly f
 
-never : {A : Type 0} → false ≡ true → A
-never h = let z : _≡_ {A = ℕ} 0 1 = cc in absurd (omega arith)
-
 ---------------------------------------------------------------- how readings are put together
 
 calm-stop : (w : Why) → keepsStop calmly w ≡ true → isQuit w ≡ false
@@ -38,7 +34,7 @@ unfolding keepsStop isQuit
 calm-stop (out k) h = refl
 calm-stop bad h = refl
 calm-stop lack h = refl
-calm-stop (quit o j m) h = never h
+calm-stop (quit o j m) h = absurd (false≢true h)
 
 calm-glue : (R : List Rec) (m : ℕ) (a : Ans) → Calm a → Calm (glue R m a)
 unfolding givesUp glue
@@ -95,7 +91,7 @@ keeps-calm =
       keeps-close = calm-close;
       keeps-late = λ h. calm-late 1;
       keeps-soft = λ h. calm-soft;
-      keeps-lax = λ h. never h;
+      keeps-lax = λ h. absurd (false≢true h);
     }
 
 ---------------------------------------------------------------- formats

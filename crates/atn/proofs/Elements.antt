@@ -1,21 +1,21 @@
 -- The elements of any lent table tell no places, and never carry on past the end of their window.
-use mathlib.Core.Path.{_≡_, refl, ap, _∙_}
-use mathlib.Core.Bool.{Bool, true, false, _&&_}
+use mathlib.Core.Path.{_≡_, refl}
+use mathlib.Core.Bool.{Bool, true, _&&_}
 use mathlib.Core.List.{List, [], _∷_}
 use Prim.Native.Nat.{ℕ, zero, suc}
 use lib.ListN.{getD}
-use Rattle.atn.specs.Format.{Fmt, Alts, none-left, _∥_}
+use Rattle.atn.specs.Format.{Fmt}
 use Rattle.atn.specs.Messages.{arguments, noReader, argumentOf, elements, messageData, atcMessage}
 use Rattle.atn.proofs.Inverse.{both}
 use Rattle.atn.proofs.Tame.{keepsStop, tame, tameFields, tameChoice}
 use Rattle.atn.proofs.Firm.{firm, firmChoice}
 use Rattle.atn.proofs.Shift.{placeless, placelessFields, placelessChoice}
 
-unfoldable every : (Fmt → Bool) → List Fmt → Bool
+unfoldable pub every : (Fmt → Bool) → List Fmt → Bool
 every p [] = true
 every p (f ∷ fs) = p f && every p fs
 
-every-get : (p : Fmt → Bool) (fs : List Fmt) (d : Fmt) (k : ℕ) → every p fs ≡ true → p d ≡ true → p (getD fs k d) ≡ true
+pub every-get : (p : Fmt → Bool) (fs : List Fmt) (d : Fmt) (k : ℕ) → every p fs ≡ true → p d ≡ true → p (getD fs k d) ≡ true
 unfolding every
 every-get p [] d k h g = g
 every-get p (f ∷ fs) d zero h g = both (p f) (every p fs) h .0

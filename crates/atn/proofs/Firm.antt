@@ -1,12 +1,12 @@
 -- Formats whose reading never carries on past the end of its window: only a soft part does, and presence bits that may be missing.
 use mathlib.Core.Path.{_≡_, refl}
-use mathlib.Core.Bool.{Bool, true, false}
+use mathlib.Core.Bool.{Bool, true, false, false≢true}
 use mathlib.Core.List.{List}
 use Prim.Native.Nat.{ℕ, zero, suc}
 use native.Mathlib.Omega.{arith}
-use Rattle.atn.specs.Format.{Fmt, Flds, Alts, out, bad, lack, quit}
+use Rattle.atn.specs.Format.{Fmt, Alts, out, bad, lack, quit}
 use Rattle.atn.specs.Reading.{Rec, Ctx, Ans, ok, past, stop, glue, then, fork, close, shut, laxly, giveUp, read}
-use Rattle.atn.proofs.Tame.{Kind, keepsStop, tame, tameFields, tameChoice, Keeps, tame-read}
+use Rattle.atn.proofs.Tame.{Kind, tame, tameChoice, Keeps, tame-read}
 
 unfoldable pub isPast : Ans → Bool
 isPast (ok p R m) = false
@@ -24,9 +24,6 @@ firm f = tame firmly f
 
 abbrev pub firmChoice : Alts → Bool
 firmChoice fs = tameChoice firmly fs
-
-never : {A : Type 0} → false ≡ true → A
-never h = let z : _≡_ {A = ℕ} 0 1 = cc in absurd (omega arith)
 
 ---------------------------------------------------------------- how readings are put together
 
@@ -70,8 +67,8 @@ keeps-firm =
       keeps-out = λ n p R m. refl;
       keeps-then = firm-then;
       keeps-close = firm-close;
-      keeps-late = λ h. never h;
-      keeps-soft = λ h. never h;
+      keeps-late = λ h. absurd (false≢true h);
+      keeps-soft = λ h. absurd (false≢true h);
       keeps-lax = λ h. firm-lax;
     }
 

@@ -1,4 +1,6 @@
 pub mod Steps
+pub mod Then
+pub mod Texts
 pub mod Complete
 pub mod Inverse
 pub mod Sound

@@ -1,19 +1,19 @@
 -- A stretch of the frame, read by itself, gives what it gives in the frame, at places that are moved. This holds of the formats that tell no spans.
-use mathlib.Core.Path.{_≡_, refl, sym, ap, _∙_, fun-ext}
-use mathlib.Core.Bool.{Bool, true, false, cond, _&&_}
+use mathlib.Core.Path.{_≡_, refl, sym, ap, _∙_}
+use mathlib.Core.Bool.{Bool, true, false, cond, _&&_, false≢true}
 use mathlib.Core.List.{List, [], _∷_, _++_}
 use Prim.Native.Nat.{ℕ, zero, suc, _+_, _-_, _*_, _/_, _≤_, _<_}
 use lib.ListN.{length, drop}
 use native.Mathlib.Nat.{add-assoc, add-suc, suc-mul, add-comm}
 use native.Mathlib.Omega.{arith}
 use lib.Dec.{leb, ltb, eqb}
-use borrow.Author.Tests.{leb-true, leb-false, le-leb, lt-leb, ltb-true, ltb-false, lt-ltb, le-ltb, eqb-true, eqb-false, eq-eqb, ne-eqb}
+use borrow.Author.Tests.{ltb-true, ltb-false, lt-ltb, le-ltb, eqb-true, eqb-false, eq-eqb, ne-eqb}
 use Rattle.x691.specs.Bits.{uint}
 use Rattle.x691.specs.Encoding.{width}
 use Rattle.x691.proofs.BitLaws.{uint-agree}
 use Rattle.atn.specs.Format.{Fmt, num, listed, name, text, span, anySpan, skipped, small, null, noted, placed, marked, refuse, element, ext, seq, loose, choice, many, inner, soft, lax}
-use Rattle.atn.specs.Format.{Flds, end, _⨾_, _⨾?_, orNote, unread, Alts, none-left, _∥_, Letters, first, numeric, Why, out, bad, lack, quit}
-use Rattle.atn.specs.Reading.{Rec, rec, Ctx, Ans, ok, past, stop, glue, tardy, late, then, times, fork, guard, or, unless, over, fetch, pull, sized, letters, units, packs, pack, coded, spaced, noneAbove, lettered, kept, short, long, fragment, lengths, lengthThen, flags, unreadMarks, within, close, shut, softly, passOver, laxly, giveUp, read, readFields, readChoice}
+use Rattle.atn.specs.Format.{Flds, end, _⨾_, _⨾?_, orNote, unread, Alts, none-left, _∥_, Letters, first, numeric, out, bad, lack, quit}
+use Rattle.atn.specs.Reading.{Rec, rec, Ctx, Ans, ok, past, stop, glue, late, then, times, fork, guard, unless, over, fetch, pull, sized, letters, units, packs, pack, coded, spaced, noneAbove, lettered, kept, short, long, fragment, lengths, lengthThen, flags, unreadMarks, within, close, shut, softly, passOver, laxly, giveUp, read, readFields, readChoice}
 use Rattle.atn.proofs.Steps.{fetch-go, fetch-no}
 use Rattle.atn.proofs.Reach.{split}
 use Rattle.atn.proofs.Inverse.{both}
@@ -67,9 +67,6 @@ unfoldable mutual
   placelessChoice (f ∥ fs) = placeless f && placelessChoice fs
 
 ---------------------------------------------------------------- answers
-
-never : {A : Type 0} → false ≡ true → A
-never h = let z : _≡_ {A = ℕ} 0 1 = cc in absurd (omega arith)
 
 pub displaced-append : (a : ℕ) (R S : List Rec) → displaced a (R ++ S) ≡ displaced a R ++ displaced a S
 unfolding displaced
@@ -262,8 +259,8 @@ mutual
       let w : ℕ = width (n - 1) in
       sized-moved b c a L h e l at lo hi _ _ λ k q i.
       letters-moved b c a L h e l w n k q _ _ (λ u. rw (displaced-text a t y (x .0) at (units b w q k)) (ap (λ (cs : List ℕ). ok (a + (q + k * w)) (lettered t y (x .0) (a + at) cs) 0) (sym (units-moved b c a L h w q k (omega arith))))) i
-  shift b c a L h (span t w lo hi) x e at z l = never z
-  shift b c a L h (anySpan t w) x e at z l = never z
+  shift b c a L h (span t w lo hi) x e at z l = absurd (false≢true z)
+  shift b c a L h (anySpan t w) x e at z l = absurd (false≢true z)
   shift b c a L h (skipped m) x e at z l = ok-moved a at [] _ _ _ refl (λ p. length-moved b c a L h e l 65537 p _ _ λ k q. pull-moved b c a L h e l q (k * 8) _ _ λ _ _. rw (add-assoc a q (k * 8)))
   shift b c a L h (small m t) x e at z l =
       ok-moved a at [] _ _ _ refl (λ p.

@@ -14,9 +14,10 @@ use Rattle.x691.specs.Encoding.{width, widthIn}
 use Rattle.per.proofs.Laws.{uint-below, uint-below-wide}
 use Rattle.per.proofs.Widths.{width-le}
 use Rattle.atn.specs.Format.{text, first, numeric, out}
-use Rattle.atn.specs.Reading.{Rec, Ctx, Ans, ok, past, stop, glue, late, then, or, mark, unless, over, sized, letters, units, coded, lettered, pack, read}
-use Rattle.atn.proofs.Marks.{or-assoc, or-nil}
+use Rattle.atn.specs.Reading.{Rec, Ctx, Ans, ok, past, stop, glue, then, mark, unless, over, sized, letters, units, coded, lettered, pack, read}
+use Rattle.atn.proofs.Marks.{or-nil}
 use Rattle.atn.proofs.Steps.{pull-go, pull-no, then-nil}
+use Rattle.atn.proofs.Then.{glue-then}
 use Rattle.cursor.specs.declared.place.Cursor.{Cursor}
 use Rattle.cursor.specs.declared.place.Got.{Got}
 use Rattle.field_ranges.specs.declared.table.Range.{Range}
@@ -120,13 +121,13 @@ module _ (s : List ℕ) (e : ℕ) where
   unfolding letters unless
   one-more n at k h = pull-go (bitOf s) e at 7 _ h ∙ rw (lt-ltb (uint (bitOf s) at 7) 128 (uint-below s at 7)) (then-nil (at + 7) (λ p. seven n p k))
 
-  letters-all : (n at : ℕ) (k : ℕ → Ans) → at + n * 7 ≤ e → seven n at k ≡ k (at + n * 7)
+  pub letters-all : (n at : ℕ) (k : ℕ → Ans) → at + n * 7 ≤ e → seven n at k ≡ k (at + n * 7)
   unfolding letters
   letters-all zero at k h = ap k (omega arith)
   letters-all (suc n) at k h = one-more n at k (omega arith) ∙ letters-all n (at + 7) k (omega arith) ∙ ap k (omega arith)
 
   -- the place is behind the last whole one
-  letters-out : (n at : ℕ) (k : ℕ → Ans) → at ≤ e → e < at + n * 7 → seven n at k ≡ stop (out (7 - (e - at) % 7)) (at + (e - at) / 7 * 7) [] 0
+  pub letters-out : (n at : ℕ) (k : ℕ → Ans) → at ≤ e → e < at + n * 7 → seven n at k ≡ stop (out (7 - (e - at) % 7)) (at + (e - at) / 7 * 7) [] 0
   unfolding letters
   letters-out zero at k l h = absurd (omega arith)
   letters-out (suc n) at k l h = go (leb (at + 7) e) refl λ y. letters-out n (at + 7) k y (omega arith)
@@ -219,24 +220,6 @@ reads-cut {k} {s} {c} {d} {R} S h r = record { led = λ i. go i (r .led i) }
     go i (went p m z a l q) = never (ap good a) (h i z)
     go i (failed w p m T n z a l q) = failed w p m T n z a l q
 
-glue-glue : (R : List Rec) (m n : ℕ) (a : Ans) → glue R (or m n) a ≡ glue [] m (glue R n a)
-unfolding glue
-glue-glue R m n (ok p S o) = rw (or-assoc m n o)
-glue-glue R m n (past l p S o) = rw (or-assoc m n o)
-glue-glue R m n (stop w p S o) = rw (or-assoc m n o)
-
-late-glue : (k : ℕ) (R : List Rec) (m n : ℕ) (a : Ans) → late k R (or m n) a ≡ glue [] m (late k R n a)
-unfolding glue late
-late-glue k R m n (ok p S o) = rw (or-assoc m n o)
-late-glue k R m n (past l p S o) = rw (or-assoc m n o)
-late-glue k R m n (stop w p S o) = rw (or-assoc m n o)
-
-then-glue : (m : ℕ) (a : Ans) (k : ℕ → Ans) → then (glue [] m a) k ≡ glue [] m (then a k)
-unfolding then glue
-then-glue m (ok p R n) k = glue-glue R m n (k p)
-then-glue m (past l p R n) k = late-glue l R m n (k p)
-then-glue m (stop w p R n) k = refl
-
 module _ (b : ℕ → ℕ) (e w n : ℕ) where
   abbrev run : ℕ → ℕ → (ℕ → Ans) → Ans
   run i at k = letters b e w n i at k
@@ -256,7 +239,7 @@ module _ (b : ℕ → ℕ) (e w n : ℕ) where
           let m : ℕ = unless (ltb (uint b at w) n) 1 in
           pull-go b e at w _ y
           ∙ ap (glue [] m) r
-          ∙ sym (then-glue m (run i (at + w) done) (λ q. run j q k))
+          ∙ sym (glue-then [] m (run i (at + w) done) (λ q. run j q k))
           ∙ ap (λ (a : Ans). then a (λ q. run j q k)) (sym (pull-go b e at w _ y))
       go false q r =
           let y : e < at + w = leb-false (at + w) e q in

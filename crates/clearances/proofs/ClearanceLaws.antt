@@ -15,14 +15,15 @@ use Rattle.atn.specs.Reading.{Rec, rec, Ctx, Ans, ok, past, stop, glue, then, o
 use Rattle.atn.specs.Messages as message
 use Rattle.atn.specs.Messages.{routeClearance}
 use Rattle.atn.proofs.Tame.{keepsStop, tame}
-use Rattle.atn.proofs.Firm.{isPast, firm, firm-read}
+use Rattle.atn.proofs.Firm.{isPast, firm-read}
 use Rattle.atn.proofs.Reach.{split}
 use Rattle.atn.proofs.Marks.{or-nil}
 use Rattle.atn.proofs.Steps.{then-nil, fetch-go, fetch-no, pull-go, pull-no}
+use Rattle.atn.proofs.Then.{then-same}
 use Rattle.cursor.specs.declared.place.Cursor.{Cursor}
 use Rattle.cursor.specs.declared.place.Got.{Got}
 use Rattle.cursor.specs.Place.{number, put, marked, stopped, Inside, Pulled, stuck, short, got, Pulls, Reads}
-use Rattle.cursor.proofs.Laws.{reads-here, reads-same, reads-then, reads-ok, pull-then, marked-nil, bit-of, Behind}
+use Rattle.cursor.proofs.Laws.{reads-here, reads-same, reads-then, pull-then, marked-nil, bit-of, Behind}
 use Rattle.length_determinants.proofs.LengthLaws.{reads-mark}
 use Rattle.records.specs.Told.{Told}
 use Rattle.records.proofs.Telling.{told-none, told-then, told-within}
@@ -32,7 +33,7 @@ use Rattle.optional_parts.specs.Parts.{Part, Optional, Fields, chosen}
 use Rattle.route_ends.specs.Ends.{departureFields, arrivalFields}
 use Rattle.clearances.specs.Clearance.{routeFields, clearanceFields, Rest}
 use Rattle.clearances.specs.Attempts.{attempt}
-use Rattle.optional_parts.proofs.ThenLaws.{joined, then-same, Shows, chosen-fields, chosen-joined}
+use Rattle.optional_parts.proofs.ThenLaws.{joined, Shows, chosen-fields, chosen-joined}
 use Rattle.optional_parts.proofs.PartLaws.{part-runs, part-none, part-still, part-told, part-set, part-clear, part-within, part-same, part-then}
 use Rattle.clearances.proofs.LateLaws.{Wants, enough, unreads, wants, loose-none, loose-some}
 

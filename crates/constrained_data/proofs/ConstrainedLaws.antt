@@ -7,12 +7,13 @@ use native.Mathlib.Omega.{arith}
 use lib.Dec.{leb}
 use borrow.Author.Tests.{leb-true, leb-false}
 use Rattle.x691.specs.Bits.{bitOf}
-use Rattle.atn.specs.Reading.{Rec, rec, Ans, past, stop, late, then, times, or, laxly, read}
+use Rattle.atn.specs.Reading.{Rec, rec, Ans, past, late, then, times, laxly, read}
 use Rattle.atn.specs.Messages.{routeClearance, constrainedData}
 use Rattle.atn.proofs.Marks.{or-nil}
+use Rattle.atn.proofs.Then.{then-end, then-same}
 use Rattle.cursor.specs.declared.place.Cursor.{Cursor}
 use Rattle.cursor.specs.declared.place.Got.{Got}
-use Rattle.cursor.specs.Place.{number, Inside}
+use Rattle.cursor.specs.Place.{Inside}
 use Rattle.records.specs.Told.{Told}
 use Rattle.records.proofs.Telling.{told-none, told-then}
 use Rattle.runs.specs.declared.At.{At}
@@ -22,7 +23,6 @@ use Rattle.clearance_attempts.specs.Excused.{Excused}
 use Rattle.clearance_count.specs.Counts.{countThen, Counts}
 use Rattle.clearances.specs.Attempts.{attempt, attempts}
 use Rattle.constrained_data.specs.Clears.{Clears}
-use Rattle.optional_parts.proofs.ThenLaws.{then-end, then-same}
 use Rattle.optional_parts.proofs.PartLaws.{part-none, part-runs}
 use Rattle.clearances.proofs.ClearanceLaws.{clearance-beyond, attempt-end}
 use Rattle.runs.proofs.AttemptLaws.{lax-kept, lax-dropped, lax-ends}

@@ -12,9 +12,9 @@ use Rattle.atn.specs.Format.{Fmt, out, ext, seq, many, null, lax, end, _⨾?_}
 use Rattle.atn.specs.Reading.{Ans, stop, fork, times, pull, sized, flags, unreadMarks, read, readFields}
 use Rattle.atn.specs.Messages.{routeClearance}
 use Rattle.atn.proofs.Steps.{then-nil, fetch-go, fetch-no, pull-go, pull-no}
+use Rattle.atn.proofs.Then.{then-end}
 use Rattle.clearance_count.specs.Counts.{countThen}
 use Rattle.clearances.specs.Attempts.{attempts}
-use Rattle.optional_parts.proofs.ThenLaws.{then-end}
 
 pull-same : (b : ℕ → ℕ) (e at n : ℕ) (k l : ℕ → Ans) → (at + n ≤ e → k (uint b at n) ≡ l (uint b at n)) → pull b e at n k ≡ pull b e at n l
 pull-same b e at n k l q = by (leb (at + n) e) refl

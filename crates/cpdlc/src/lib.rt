@@ -41,7 +41,7 @@ pub fn parse_pdus(frame: &[u8], direction: u64, down: &[u8], up: &[u8], words: &
     if 1 < direction {
         return refused(3);
     }
-    if has_few(frame) {
+    if has_few(frame, direction) {
         let mut few = [0u64; FEW_SPARE];
         let v = try_frame(frame, &mut few, direction, down, up);
         return answer_frame(frame, words, &few, direction, down, up, v);
@@ -95,13 +95,18 @@ pub fn parse_apdu(frame: &[u8], down: &[u8], up: &[u8], words: &mut [u64]) -> An
     answer_frame(frame, words, &spare, 0, down, up, v)
 }
 
-// Whether fewer spare words will do: it is a short frame, or its extension bit is set, and then there are three records at
-// most. Nothing but the time rests on it, since a frame whose records do not fit is read again.
-fn has_few(frame: &[u8]) -> bool {
+// Whether fewer spare words will do: it is a short frame, or there are three records at most, since its extension bit is set
+// or its choice names neither a start, a send nor a forward message. Nothing but the time rests on it, since a frame whose
+// records do not fit is read again.
+fn has_few(frame: &[u8], direction: u64) -> bool {
     if frame.len() <= SHORT {
         return true;
     }
-    128 <= frame[0]
+    let first = frame[0];
+    if direction == 0 {
+        return first < 0x40 || 0x80 <= first;
+    }
+    first < 0x20 || 0x50 <= first
 }
 
 // Whether more spare words are worth the time to clear them: the frame is long, and where its choice may name a protected

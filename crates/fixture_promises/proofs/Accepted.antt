@@ -14,6 +14,7 @@ use Rattle.atn.specs.Entries.{table-fits, direction-fits}
 use Rattle.record_lists.specs.Kinds.{spanTag, kindOf}
 use Rattle.record_lists.specs.Write.{write}
 use Rattle.record_lists.specs.Message.{recordsOf, bytesNeeded, bytesOf, Written, written, refused, list-fits, bitsOfMessage, settled, write-message}
+use Rattle.record_lists.proofs.Messages.{nothing}
 
 -- what holds where n bits are written and the lent bytes are out′ afterwards
 pub record Accepted (k d : ℕ) (down up W s out : List ℕ) (n : ℕ) (out′ : List ℕ) : Type 0 where
@@ -31,10 +32,6 @@ pub record Accepted (k d : ℕ) (down up W s out : List ℕ) (n : ℕ) (out′ :
   -- there is room for them, and they fill the front of the lent bytes; those behind stay
   pub room : bytesNeeded bits ≤ length out
   pub filled : out′ ≡ bytesOf bits ++ drop (bytesNeeded bits) out
-
--- refused is not accepted
-none-some : {A : Type 0} {B : List ℕ} → none ≡ some B → A
-none-some h = let z : _≡_ {A = ℕ} 0 1 = cc in absurd (omega arith)
 
 refused-written : {A : Type 0} {e m n : ℕ} {w v : List ℕ} → _≡_ {A = Written × List ℕ} (refused e m, w) (written n, v) → A
 refused-written h = let x = ap (λ (o : Written × List ℕ). o .0) h in let z : _≡_ {A = ℕ} 0 1 = cc in absurd (omega arith)
@@ -59,13 +56,13 @@ settled-inv (some B) out {n} {out′} h = go (leb (bytesNeeded B) (length out)) 
 bits-inv : (o : Option Fmt) (W s : List ℕ) {B : List ℕ} → bitsOfMessage o W s ≡ some B
     → (f : Fmt) × (o ≡ some f) × (list-fits W s ≡ true) × (write spanTag f (bitOf s) (length s * 8) (recordsOf W) ≡ some B)
 unfolding bitsOfMessage
-bits-inv none W s h = none-some h
+bits-inv none W s h = nothing h
 bits-inv (some f) W s {B} h = go (list-fits W s) refl h
   where
     go : (t : Bool) → list-fits W s ≡ t → cond t (write spanTag f (bitOf s) (length s * 8) (recordsOf W)) none ≡ some B
         → (g : Fmt) × (some f ≡ some g) × (list-fits W s ≡ true) × (write spanTag g (bitOf s) (length s * 8) (recordsOf W) ≡ some B)
     go true e q = (f, refl, e, q)
-    go false e q = none-some q
+    go false e q = nothing q
 
 -- from the answer to all of it
 pub accepted : (k d : ℕ) (down up W s out : List ℕ) {n : ℕ} {out′ : List ℕ} → write-message k d down up W s out ≡ (written n, out′) → Accepted k d down up W s out n out′

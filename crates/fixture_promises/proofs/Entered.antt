@@ -13,6 +13,7 @@ use Rattle.atn.proofs.Outcomes.{passes, settle-fits, decide-go}
 use Rattle.record_lists.specs.Kinds.{kindOf}
 use Rattle.record_lists.specs.Message.{bytesOf}
 use Rattle.record_lists.specs.Most.{most}
+use Rattle.record_lists.proofs.Messages.{some-is}
 use Rattle.fixture_promises.proofs.RoundTrip.{ReadBack}
 
 -- an entry whose tests hold, over a frame that is read clean, with room for the records
@@ -20,10 +21,6 @@ pub clean-entered : (ts : List Test) (F : List ℕ → Reply) (s w : List ℕ) (
     → enter ts F s w ≡ (accepted false p 0 (length R), flat R ++ drop (need R) w)
 unfolding enter passes
 clean-entered ts F s w p R l t r n = decide-go (test (frame-fits s) 1 ∷ ts) (F s) w (rw (l, t)) ∙ rw r (settle-fits false p 0 R w n)
-
--- one format
-some-is : {f g : Fmt} → some f ≡ some g → f ≡ g
-some-is h = cc
 
 module _ {k d : ℕ} {down up W s out : List ℕ} {n : ℕ} {out′ : List ℕ} (x : ReadBack k d down up W s out n out′) (few : most (x .format) ≤ 65536) (w : List ℕ) (room : need (x .recs) ≤ length w) where
   -- the records that are read, in the lent words w

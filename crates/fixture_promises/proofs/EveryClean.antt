@@ -1,12 +1,11 @@
 -- The records of a clean reading are few, so that nothing is asked of them: they are written again whatever the frame.
 use mathlib.Core.Path.{_≡_, refl}
 use mathlib.Core.Bool.{true, false, _&&_}
-use mathlib.Core.Option.{Option, none, some}
+use mathlib.Core.Option.{some}
 use mathlib.Core.List.{List, _++_}
-use Prim.Native.Nat.{ℕ, zero, suc, _+_, _*_, _/_, _%_, _≤_, _<_}
+use Prim.Native.Nat.{ℕ, zero, suc, _+_, _/_, _%_, _≤_, _<_}
 use native.Mathlib.Omega.{arith}
 use lib.ListN.{length, drop}
-use lib.Dec.{eqb, ltb}
 use borrow.Author.Tests.{leb-true, lt-ltb, eq-eqb}
 use Rattle.x691.specs.Bits.{bitOf, Spells}
 use Rattle.atn.specs.Format.{Fmt}
@@ -22,6 +21,7 @@ use Rattle.record_lists.specs.Plain.{Plain}
 use Rattle.record_lists.specs.Exceptions.{aircraftSpares, groundSpares}
 use Rattle.record_lists.proofs.Exceptions.{aircraft-pdus-plain, ground-pdus-plain}
 use Rattle.record_lists.specs.Message.{bytesNeeded, bytesOf, written, list-fits, write-message}
+use Rattle.record_lists.proofs.Messages.{some-is}
 use Rattle.fixture_promises.proofs.Words.{flat-length}
 use Rattle.fixture_promises.proofs.Rewritten.{read-again}
 
@@ -29,9 +29,6 @@ cm-most : (d : ℕ) → most (cmOf d) ≤ 8324
 unfolding cmOf
 cm-most zero = cm-aircraft-most
 cm-most (suc d) = cm-ground-most
-
-some-is : {A : Type 0} {a b : A} → some a ≡ some b → a ≡ b
-some-is h = cc
 
 kind-most : (k d : ℕ) (down up : List ℕ) {f : Fmt} → kindOf k d down up ≡ some f → most f ≤ 8324
 unfolding kindOf

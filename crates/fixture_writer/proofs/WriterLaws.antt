@@ -1,8 +1,8 @@
 -- The answer, step by step: what is refused, and what is written.
 use mathlib.Core.Path.{_≡_, refl, sym, ap, _∙_}
-use mathlib.Core.Bool.{Bool, true, false, cond, not, _&&_}
-use mathlib.Core.Option.{Option, none, some}
-use mathlib.Core.List.{List, [], _∷_, _++_}
+use mathlib.Core.Bool.{Bool, true, false, cond, _&&_}
+use mathlib.Core.Option.{none, some}
+use mathlib.Core.List.{List, [], _++_}
 use Prim.Native.Nat.{ℕ, zero, suc, _+_, _-_, _*_, _/_, _%_, _^_, _≤_, _<_}
 use native.Mathlib.Omega.{arith}
 use lib.ListN.{length, drop, getD}
@@ -11,19 +11,18 @@ use borrow.Author.Tests.{le-leb, lt-leb, lt-ltb, le-ltb, eq-eqb, ne-eqb, leb-tru
 use Rattle.x691.specs.Bits.{bitOf, bitsOf}
 use Rattle.x691.specs.Types.{Value}
 use Rattle.x691.specs.Encoding.{encode}
-use Rattle.x691.specs.Range.{All, InRange}
+use Rattle.x691.specs.Range.{InRange}
 use Rattle.atn.specs.Format.{Fmt, typeOf}
 use Rattle.atn.specs.Entries.{table-fits, direction-fits, pdus, cmOf}
 use Rattle.atn.specs.Messages.{acse}
 use Rattle.bit_writer.specs.Put.{setBits}
-use Rattle.record_lists.specs.Items.{Item, look, inside}
+use Rattle.record_lists.specs.Items.{Item, inside}
 use Rattle.record_lists.specs.Kinds.{spanTag, kindOf}
 use Rattle.record_lists.specs.Parse.{Got, no, got, parse}
 use Rattle.record_lists.specs.Write.{encoded, write}
-use Rattle.record_lists.specs.Message.{recordsFrom, recordsOf, bytesNeeded, bytesOf, list-fits, bitsOfMessage, settled, write-message}
+use Rattle.record_lists.specs.Message.{recordsOf, bytesNeeded, bytesOf, list-fits, bitsOfMessage, settled, write-message}
 use Rattle.record_lists.specs.Message as message
 use Rattle.record_lists.proofs.Forth.{differ, forth}
-use Rattle.record_lists.specs.Most.{most}
 use Rattle.record_lists.proofs.Longest.{longest}
 use Rattle.message_nodes.specs.Table.{table, depth}
 use Rattle.message_nodes.specs.Roots.{rootOf}
@@ -239,7 +238,3 @@ pub root-part : (k d r : ℕ) (down up : List ℕ) (f : Fmt) (s : ℕ → ℕ) (
 root-part k d r down up f s W m p X q Y e h a =
     let z : f ≡ formatAt depth table down up r = sym (ap (λ (j : ℕ). formatAt depth table down up j) e ∙ meaning k d down up h) in
     rw z a
-
-pub not-off : (b : Bool) → not b ≡ false → b ≡ true
-not-off true h = refl
-not-off false h = differ (sym h)

@@ -1,20 +1,19 @@
 -- Every list of records that an entry gives is one that the rows take.
 use mathlib.Core.Path.{_≡_, refl, _∙_}
-use mathlib.Core.Bool.{Bool, true, false, cond, _&&_}
-use mathlib.Core.List.{List, [], _∷_, _++_}
+use mathlib.Core.Bool.{Bool, true, false, _&&_}
+use mathlib.Core.List.{List, [], _∷_}
 use mathlib.Core.Logic.{inl, inr}
 use Prim.Native.Nat.{ℕ, zero, suc, _*_, _%_, _≤_}
 use native.Mathlib.Omega.{arith}
 use lib.Dec.{leb, eqb}
-use lib.ListN.{length, getD, take, drop}
-use lib.Seq.{take-append-seam}
+use lib.ListN.{length, getD}
 use borrow.Author.Tests.{leb-true, eqb-true, eq-eqb}
 use Rattle.x691.specs.Bits.{bitOf}
 use Rattle.x691.proofs.BitLaws.{bitOf-lt}
 use Rattle.atn.specs.Format.{Fmt, null, out, bad, lack, quit}
 use Rattle.atn.specs.Reading.{Rec, rec, Ctx, Ans, ok, past, stop, read, readChoice}
 use Rattle.atn.specs.Messages.{dateTimeGroup, constrainedData, arguments, argument, noReader, argumentOf, elements, messageData, atcMessage, protectedMessage, aircraftPdus, groundPdus, cmAircraft, cmGround, acse}
-use Rattle.atn.specs.Entries.{Reply, accept, ranOut, badly, unsupplied, stopped, reply, readFrame, afterOut, afterBad, orElse, accepted, refused, flat, need, settle, frame-fits, table-fits, Test, test, decide, enter, pdus, parse-pdus, parse-apdu, cmOf, parse-cm, parse-acse-apdu}
+use Rattle.atn.specs.Entries.{Reply, stopped, reply, readFrame, orElse, flat, need, frame-fits, table-fits, Test, decide, enter, pdus, parse-pdus, parse-apdu, cmOf, parse-cm, parse-acse-apdu}
 use Rattle.atn.proofs.Inverse.{both}
 use Rattle.records.specs.Space.{size}
 use Rattle.record_views.specs.View.{whole, recordsFrom, fetched}
@@ -33,6 +32,7 @@ use Rattle.grammar_promises.proofs.Lists.{EndsIn, ends-lost}
 use Rattle.grammar_promises.proofs.Lent.{Lent, free, lent-free}
 use Rattle.grammar_promises.proofs.Follows.{Bits, fails, in-left, in-right, follows}
 use Rattle.grammar_promises.proofs.Reached.{outside, atEnd, allEnd, argumentsGo, elementGo, reached, ends, endsWell, ends-well, acse-ends, cm-aircraft-ends, cm-ground-ends, aircraft-ends, ground-ends}
+use Rattle.grammar_promises.proofs.Replies.{Good, good-else, Passed, decide-good}
 
 ---------------------------------------------------------------- the elements of any lent table
 
@@ -90,12 +90,8 @@ ground-lent down up d u =
 
 ---------------------------------------------------------------- accepted frames
 
--- the records of an accepted frame
-abbrev Good : Reply → Type 0
-Good (accept c p m R) = heard table R ≡ true
-Good (ranOut p k) = Unit {0}
-Good (badly p) = Unit {0}
-Good (unsupplied p) = Unit {0}
+abbrev Heard : Reply → Type 0
+Heard r = Good (λ R. heard table R ≡ true) r
 
 -- before the first record nothing is counted
 abbrev uncounted : ℕ → ℕ
@@ -116,8 +112,8 @@ end-heard [] h s g = absurd g
 end-heard (σ ∷ A) h s (inl g) = at-three (step outside 0 (value 0 1 0) σ) (stepped table s (fetched (rec 0 0 0 0 0))) (both (atEnd (step outside 0 (value 0 1 0) σ)) (allEnd A) h .0) (step-covers uncounted outside (0, 0) known (fetched (rec 0 0 0 0 0)) (value 0 1 0) refl (omega arith, omega arith, refl) 0 refl s σ g)
 end-heard (σ ∷ A) h s (inr g) = end-heard A (both (atEnd (step outside 0 (value 0 1 0) σ)) (allEnd A) h .1) s g
 
-good-reply : (X : Exits) → ends X ≡ true → (a : Ans) → EndsIn uncounted X start a → Good (reply a)
-unfolding ends reply stopped heard Ends
+good-reply : (X : Exits) → ends X ≡ true → (a : Ans) → EndsIn uncounted X start a → Heard (reply a)
+unfolding Good ends reply stopped heard Ends
 good-reply X h (ok p R m) g = end-heard (X .next) (both (allEnd (X .next)) (allEnd (X .given)) h .0) (walked table start R) g
 good-reply X h (past k p R m) g = end-heard (X .next) (both (allEnd (X .next)) (allEnd (X .given)) h .0) (walked table start R) g
 good-reply X h (stop (out k) p R m) g = tt
@@ -125,46 +121,34 @@ good-reply X h (stop bad p R m) g = tt
 good-reply X h (stop lack p R m) g = tt
 good-reply X h (stop (quit o j k) p R m) g = end-heard (X .given) (both (allEnd (X .next)) (allEnd (X .given)) h .1) (walked table start R) g
 
-good-else : (d u : Reply) → Good d → Good u → Good (orElse d u)
-unfolding orElse afterBad afterOut
-good-else (accept c p m R) u h g = h
-good-else (unsupplied p) u h g = tt
-good-else (badly p) (accept c q m R) h g = g
-good-else (badly p) (ranOut q l) h g = tt
-good-else (badly p) (badly q) h g = tt
-good-else (badly p) (unsupplied q) h g = tt
-good-else (ranOut p k) (accept c q m R) h g = g
-good-else (ranOut p k) (ranOut q l) h g = tt
-good-else (ranOut p k) (badly q) h g = tt
-good-else (ranOut p k) (unsupplied q) h g = tt
-
-good-frame : (track : Bool) (f : Fmt) → Lent f → endsWell track f ≡ true → (s : List ℕ) → Fits s → Good (readFrame f s)
+good-frame : (track : Bool) (f : Fmt) → Lent f → endsWell track f ≡ true → (s : List ℕ) → Fits s → Heard (readFrame f s)
 unfolding readFrame reached start
 good-frame track f u h s l =
     good-reply (reached track f) (ends-well track f h) _
     (follows track (λ Γ A. elementGo track Γ A) (λ T b y i ρ Γ x k e at z A w g. elements-follow track b y ρ Γ x k e z A w g T i at) (bitOf s) (bitOf-lt s) f u uncounted outside (0, 0) known (length s * 8) 0 (omega arith) (stands 4 0 0 nil nil nil ∷ []) start
     (inl (refl, refl, refl, refl, refl, refl, refl)))
 
-all-heard : (r : List ℕ → Reply) → ((s : List ℕ) → Fits s → Good (r s)) → AllHeard r
+all-heard : (r : List ℕ → Reply) → ((s : List ℕ) → Fits s → Heard (r s)) → AllHeard r
+unfolding Good
 all-heard r f s c p m R l h = rw h at (f s l)
 
 ---------------------------------------------------------------- each way to read a frame
 
-good-pdus : (d : ℕ) (down up : List ℕ) → Short down → Short up → (s : List ℕ) → Fits s → Good (readFrame (pdus d down up) s)
+good-pdus : (d : ℕ) (down up : List ℕ) → Short down → Short up → (s : List ℕ) → Fits s → Heard (readFrame (pdus d down up) s)
 unfolding pdus
 good-pdus zero down up h g = good-frame false (aircraftPdus down) (aircraft-lent down h) (aircraft-ends down)
 good-pdus (suc d) down up h g = good-frame false (groundPdus down up) (ground-lent down up h g) (ground-ends down up)
 
-good-apdu : (down up : List ℕ) → Short down → Short up → (s : List ℕ) → Fits s → Good (orElse (readFrame (aircraftPdus down) s) (readFrame (groundPdus down up) s))
+good-apdu : (down up : List ℕ) → Short down → Short up → (s : List ℕ) → Fits s → Heard (orElse (readFrame (aircraftPdus down) s) (readFrame (groundPdus down up) s))
 unfolding pdus
-good-apdu down up h g s l = good-else _ _ (good-pdus 0 down up h g s l) (good-pdus 1 down up h g s l)
+good-apdu down up h g s l = good-else _ _ _ (good-pdus 0 down up h g s l) (good-pdus 1 down up h g s l)
 
-good-cm : (d : ℕ) (s : List ℕ) → Fits s → Good (readFrame (cmOf d) s)
+good-cm : (d : ℕ) (s : List ℕ) → Fits s → Heard (readFrame (cmOf d) s)
 unfolding cmOf free
 good-cm zero = good-frame false cmAircraft (lent-free cmAircraft refl) cm-aircraft-ends
 good-cm (suc d) = good-frame false cmGround (lent-free cmGround refl) cm-ground-ends
 
-good-acse : (s : List ℕ) → Fits s → Good (readFrame acse s)
+good-acse : (s : List ℕ) → Fits s → Heard (readFrame acse s)
 unfolding free
 good-acse = good-frame true acse (lent-free acse refl) acse-ends
 
@@ -188,30 +172,8 @@ formed-flat : (R : List Rec) → heard table R ≡ true → formed (flat R) ≡ 
 unfolding formed whole size need recordsFrom
 formed-flat R h = rw (records-flat R, h, eq-eqb (length (flat R) % 5) 0 (omega (arith, flat-length R))) refl
 
-front : (R : List Rec) (w : List ℕ) → take (length R * 5) (flat R ++ w) ≡ flat R
-front R w = rw (← flat-length R) (take-append-seam (flat R) w)
-
-settle-formed : (r : Reply) (w : List ℕ) → Good r → Formed (settle r w)
-unfolding settle
-settle-formed (accept c p m R) w h = go (leb (need R) (length w))
-  where
-    go : (t : Bool) → Formed (cond t (accepted c p m (length R), flat R ++ drop (need R) w) (refused 7 p (need R) 0, w))
-    go true = rw (front R (drop (need R) w)) (formed-flat R h)
-    go false = tt
-settle-formed (ranOut p k) w h = tt
-settle-formed (badly p) w h = tt
-settle-formed (unsupplied p) w h = tt
-
--- what was tested holds where the reading decides
-abbrev Passed : List Test → Type 0
-Passed [] = Unit {0}
-Passed (test t n ∷ ts) = (t ≡ true) × Passed ts
-
-decide-formed : (ts : List Test) (r : Reply) (w : List ℕ) → (Passed ts → Good r) → Formed (decide ts r w)
-unfolding decide
-decide-formed [] r w f = settle-formed r w (f tt)
-decide-formed (test true n ∷ ts) r w f = decide-formed ts r w (λ p. f (refl, p))
-decide-formed (test false n ∷ ts) r w f = tt
+decide-formed : (ts : List Test) (r : Reply) (w : List ℕ) → (Passed ts → Heard r) → Formed (decide ts r w)
+decide-formed ts r w f = decide-good _ _ (λ R h. formed-flat R h) ts r w f
 
 frame-short : (s : List ℕ) → frame-fits s ≡ true → Fits s
 unfolding frame-fits

@@ -11,6 +11,7 @@ use Rattle.x691.specs.Range.{All}
 use Rattle.atn.specs.Reading.{rec, Ctx, octets, packs, pack, coded, spaced, noneAbove}
 use Rattle.atn.specs.Tags as tag
 use Rattle.atn.proofs.Inverse.{both}
+use Rattle.atn.proofs.Texts.{length-coded, length-spaced, drop-coded, drop-spaced}
 use Rattle.record_views.specs.View.{fetched}
 use Rattle.record_views.specs.declared.Record.{Record}
 use Rattle.record_grammar.specs.declared.Row.{Row}
@@ -54,28 +55,6 @@ spaced-bytes (u ∷ us) h = (go (eqb u 0), spaced-bytes us (h .1))
     go : (t : Bool) → cond t 32 (47 + u) < 256
     go true = omega arith
     go false = omega (arith, h .0)
-
-pub length-coded : (c : ℕ) (us : List ℕ) → length (coded c us) ≡ length us
-unfolding coded
-length-coded c [] = refl
-length-coded c (u ∷ us) = ap suc (length-coded c us)
-
-length-spaced : (us : List ℕ) → length (spaced us) ≡ length us
-unfolding spaced
-length-spaced [] = refl
-length-spaced (u ∷ us) = ap suc (length-spaced us)
-
-drop-coded : (k c : ℕ) (us : List ℕ) → drop k (coded c us) ≡ coded c (drop k us)
-unfolding coded
-drop-coded zero c us = refl
-drop-coded (suc k) c [] = refl
-drop-coded (suc k) c (u ∷ us) = drop-coded k c us
-
-drop-spaced : (k : ℕ) (us : List ℕ) → drop k (spaced us) ≡ spaced (drop k us)
-unfolding spaced
-drop-spaced zero us = refl
-drop-spaced (suc k) [] = refl
-drop-spaced (suc k) (u ∷ us) = drop-spaced k us
 
 drop-raws : (k : ℕ) (us : List ℕ) → Raws us → Raws (drop k us)
 drop-raws zero us h = h

@@ -5,18 +5,14 @@ use mathlib.Core.List.{List, [], _∷_}
 use Prim.Native.Nat.{ℕ, zero, suc, _+_, _-_, _*_, _/_, _%_, _^_, _≤_, _<_}
 use native.Mathlib.Nat.{zero-add, pow-suc, div-div-eq-div-mul, mul-add-div-right, mul-comm, div-eq-of-lt}
 use native.Mathlib.Omega.{arith}
-use lib.Arith.{digits-lt}
 use lib.ListN.{length}
 use borrow.Author.Tests.{lt-ltb, ne-eqb}
 use Rattle.x691.specs.Range.{All}
 use Rattle.atn.specs.Reading.{octets}
+use Rattle.atn.proofs.Texts.{octets-pos, octets-lt}
 use Rattle.record_grammar.specs.Octets.{octetFits, octetOr, octetsFit, charactersFit}
 
 ---------------------------------------------------------------- the highest octet
-
-power-pos : (k : ℕ) → 0 < 256 ^ k
-power-pos zero = omega arith
-power-pos (suc k) = rw pow-suc (omega (arith, power-pos k))
 
 and-assoc : (a b c : Bool) → a && (b && c) ≡ (a && b) && c
 and-assoc true b c = refl
@@ -53,12 +49,6 @@ octets-none (suc k) = refl
 abbrev pub Bytes : List ℕ → Type 0
 Bytes cs = All (λ c. c < 256) cs
 
-octets-lt : (k : ℕ) (cs : List ℕ) → Bytes cs → octets k cs < 256 ^ k
-unfolding octets
-octets-lt zero cs h = omega arith
-octets-lt (suc k) [] h = power-pos (suc k)
-octets-lt (suc k) (c ∷ cs) h = rw pow-suc (omega (arith, digits-lt (h .0) (octets-lt k cs (h .1))))
-
 -- octets that are all spare
 fit-spare : (rule n k u : ℕ) → k ≤ n → octetsFit rule n k u 0 ≡ true
 unfolding octetsFit octetOr
@@ -75,7 +65,7 @@ fitAll rule (suc k) (d ∷ ds) (c ∷ cs) = fitAll rule k ds cs && octetFits rul
 
 -- the digit above k octets
 digit-above : (k a d w : ℕ) → d < 256 → w < 256 ^ k → ((a * 256 + d) * 256 ^ k + w) / 256 ^ k % 256 ≡ d
-digit-above k a d w h l = rw (mul-add-div-right (power-pos k) (a * 256 + d) w, div-eq-of-lt l) (omega arith)
+digit-above k a d w h l = rw (mul-add-div-right (octets-pos k) (a * 256 + d) w, div-eq-of-lt l) (omega arith)
 
 fit-or : (rule a c : ℕ) → octetOr rule 0 a c ≡ octetFits rule a c
 unfolding octetOr

@@ -1,5 +1,5 @@
 -- The records of a number, a text and a span: the walk goes on where the exits say.
-use mathlib.Core.Path.{_≡_, refl, ap, _∙_}
+use mathlib.Core.Path.{_≡_, refl, _∙_}
 use mathlib.Core.Bool.{cond, _&&_}
 use mathlib.Core.List.{List, [], _∷_}
 use mathlib.Core.Logic.{inl}
@@ -14,6 +14,7 @@ use Rattle.atn.specs.Format.{Letters, first, numeric}
 use Rattle.atn.specs.Reading.{rec, Ctx, word, coded, lettered, spanned, units}
 use Rattle.atn.proofs.Inverse.{both}
 use Rattle.atn.proofs.Reach.{split}
+use Rattle.atn.proofs.Texts.{length-units, length-coded}
 use Rattle.record_views.specs.View.{fetched}
 use Rattle.record_grammar.specs.declared.Walk.{Walk}
 use Rattle.record_grammar.specs.Heard.{walked}
@@ -22,18 +23,13 @@ use Rattle.grammar_promises.proofs.States.{State, Covered, cond-covered
 use Rattle.grammar_promises.proofs.Verdicts.{Sort, value, stretch, Of, Scope, Known}
 use Rattle.grammar_promises.proofs.Steps.{step, step-covers}
 use Rattle.grammar_promises.proofs.Texts.{text-step}
-use Rattle.grammar_promises.proofs.Channels.{channel-step, length-coded}
+use Rattle.grammar_promises.proofs.Channels.{channel-step}
 use Rattle.grammar_promises.proofs.Goes.{anywhere, words, numberStep, lettersStep, spanStep}
 
 units-below : (b : ℕ → ℕ) → ((i : ℕ) → b i < 2) → (w at n : ℕ) → All (λ u. u < 2 ^ w) (units b w at n)
 unfolding units
 units-below b h w at zero = tt
 units-below b h w at (suc n) = (uint-lt b h at w, units-below b h w (at + w) n)
-
-length-units : (b : ℕ → ℕ) (w at n : ℕ) → length (units b w at n) ≡ n
-unfolding units
-length-units b w at zero = refl
-length-units b w at (suc n) = ap suc (length-units b w (at + w) n)
 
 all-below : (m n : ℕ) (us : List ℕ) → m ≤ n → All (λ u. u < m) us → All (λ u. u < n) us
 all-below m n [] l h = tt

@@ -13,4 +13,5 @@ pub mod Leaves
 pub mod Lent
 pub mod Follows
 pub mod Reached
+pub mod Replies
 pub mod Accepted

@@ -22,9 +22,9 @@ abbrev pub AllHeard : (List ℕ → Reply) → Type 0
 AllHeard read = (s : List ℕ) (cut : Bool) (p m : ℕ) (R : List Rec) → Fits s → read s ≡ accept cut p m R → heard table R ≡ true
 
 -- of what an entry leaves: the words that an accepted answer wrote, five to a record
-abbrev pub Wrote : Answer → List ℕ → Type 0
-Wrote (accepted cut p m n) w = formed (take (n * 5) w) ≡ true
-Wrote (refused n p k l) w = Unit {0}
+abbrev pub Wrote : (List ℕ → Type 0) → Answer → List ℕ → Type 0
+Wrote P (accepted cut p m n) w = P (take (n * 5) w)
+Wrote P (refused n p k l) w = Unit {0}
 
 abbrev pub Formed : Outcome → Type 0
-Formed o = Wrote (o .0) (o .1)
+Formed o = Wrote (λ w. formed w ≡ true) (o .0) (o .1)

@@ -9,6 +9,7 @@ use Rattle.x691.specs.Bits.{bitOf}
 use Rattle.atn.specs.Format.{Fmt, placed, many}
 use Rattle.atn.specs.Reading.{Rec, rec, Ans, ok, then, times, sized, read}
 use Rattle.atn.specs.Messages as message
+use Rattle.atn.proofs.Then.{times-end}
 use Rattle.cursor.specs.declared.place.Cursor.{Cursor}
 use Rattle.cursor.specs.declared.place.Got.{Got}
 use Rattle.cursor.specs.Place.{Reads, Takes}
@@ -18,7 +19,6 @@ use Rattle.cursor.proofs.Laws.{reads-then, reads-ok, reads-here, marked-nil}
 use Rattle.runs.specs.declared.At.{At}
 use Rattle.optional_parts.specs.Parts.{Part}
 use Rattle.optional_parts.proofs.PartLaws.{reads-stay, part-none, part-within, part-same, part-then}
-use Rattle.optional_parts.proofs.ThenLaws.{times-end}
 
 -- the record of its place, and the leg
 pub reads-placed : {f : Fmt} {s : List ℕ} {c d : Cursor} {T : ℕ → List Rec} (t i : ℕ) → Takes f s c d T → Reads (λ e p. read (placed t f) (0, i) (bitOf s) e p) s c d ((rec t 0 i 0 (c .at) ∷ []) ++ T 0)

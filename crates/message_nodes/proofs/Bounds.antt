@@ -13,13 +13,13 @@ use Rattle.x691.specs.Encoding.{width, widthIn, highest, count}
 use Rattle.per.proofs.Widths.{width-le}
 use Rattle.atn.specs.Format.{Fmt, alternativesOf}
 use Rattle.atn.specs.Reading.{flags}
-use Rattle.atn.specs.Messages.{noReader, arguments, argumentOf, elements, constrainedData, messageData, atcMessage, aircraftPdus, groundPdus, cmGround, cmAircraft, acse}
+use Rattle.atn.specs.Messages.{noReader, arguments, argumentOf, elements, constrainedData, messageData, atcMessage, aircraftPdus, groundPdus, acse}
 use Rattle.atn.specs.Entries.{pdus, cmOf}
 use Rattle.atn.proofs.Inverse.{both}
 use Rattle.record_lists.specs.Kinds.{kindOf}
 use Rattle.record_lists.specs.Most.{most, mostAlts}
+use Rattle.record_lists.proofs.Messages.{some-is, nothing}
 use Rattle.message_nodes.specs.Table.{table}
-use Rattle.message_nodes.proofs.Meaning.{some-is, nothing}
 
 pub few-nodes : length table ≤ 6000000
 unfolding table

@@ -1,26 +1,20 @@
 -- The table's roots are the messages.
 use mathlib.Core.Path.{_≡_, refl, ap, _∙_}
 use mathlib.Core.Bool.{false}
-use mathlib.Core.Option.{none, some}
+use mathlib.Core.Option.{some}
 use mathlib.Core.List.{List}
 use Prim.Native.Nat.{ℕ, zero, suc}
-use native.Mathlib.Omega.{arith}
 use Rattle.atn.specs.Tags as tag
 use Rattle.atn.specs.Format.{Fmt, num, span, anySpan, skipped, noted, ext, seq, choice, inner, soft, lax}
 use Rattle.atn.specs.Format.{end, _⨾_, _⨾?_, orNote, none-left, _∥_}
 use Rattle.atn.specs.Messages.{ia5, noReader, extReason, dateTimeGroup, messageData, atcMessage, extensionAlternative, aircraftPdus, groundPdus, cmGround, cmAircraft, acse}
 use Rattle.atn.specs.Entries.{pdus, cmOf}
 use Rattle.record_lists.specs.Kinds.{kindOf}
+use Rattle.record_lists.proofs.Messages.{some-is, nothing}
 use Rattle.node_tables.specs.Nodes.{nodeWord, memberOf, membersFrom, alternativesFrom, lettersBy, formatOf, formatAt}
-use Rattle.message_nodes.specs.Table.{table, depth, downMessageRoot, downCarriedRoot, upMessageRoot, upCarriedRoot, downlinkRoot, uplinkRoot, cmAircraftRoot, cmGroundRoot, acseRoot}
+use Rattle.message_nodes.specs.Table.{table, depth, downMessageRoot, downCarriedRoot, upCarriedRoot, downlinkRoot, uplinkRoot, cmAircraftRoot, cmGroundRoot, acseRoot}
 use Rattle.message_nodes.specs.Roots.{byDirection, rootOf}
 use Rattle.message_nodes.proofs.Elements.{Deeper, down-carried, up-carried, down-message, up-message}
-
-pub some-is : {f g : Fmt} → some f ≡ some g → f ≡ g
-some-is h = cc
-
-pub nothing : {A : Type 0} {f : Fmt} → none ≡ some f → A
-nothing h = let z : _≡_ {A = ℕ} 0 1 = cc in absurd (omega arith)
 
 acse-whole : (down up : List ℕ) → formatAt depth table down up acseRoot ≡ acse
 unfolding lettersBy formatAt formatOf memberOf membersFrom alternativesFrom nodeWord table

@@ -1,13 +1,13 @@
 -- The octets of the one text give those of the other.
-use mathlib.Core.Path.{_≡_, refl, sym, ap, _∙_}
-use mathlib.Core.Bool.{Bool, true, false, cond}
+use mathlib.Core.Path.{_≡_, refl, _∙_}
+use mathlib.Core.Bool.{false, cond}
 use mathlib.Core.List.{List, [], _∷_}
 use Prim.Native.Nat.{ℕ, zero, suc, _+_, _-_, _*_, _/_, _%_, _^_, _≤_, _<_}
-use native.Mathlib.Nat.{one-le-pow, pow-suc, pow-succ', mul-suc, mul-add-div-right, mul-add-mod-self-right, div-lt-iff-lt-mul, add-mul, mul-assoc, zero-div, zero-mod, div-eq-of-lt, mod-eq-of-lt, mod-lt, add-zero}
+use native.Mathlib.Nat.{one-le-pow, pow-suc, pow-succ', mul-add-div-right, mul-add-mod-self-right, div-lt-iff-lt-mul, add-mul, mul-assoc, zero-div, zero-mod, div-eq-of-lt, mod-eq-of-lt, mod-lt, add-zero}
 use native.Mathlib.Omega.{arith}
 use lib.Arith.{digits-lt}
 use lib.Dec.{eqb}
-use lib.Pow.{pow-add, pow-mono, pow-pos}
+use lib.Pow.{pow-add, pow-mono}
 use borrow.Author.Tests.{ne-eqb}
 use Rattle.x691.specs.Range.{All}
 use Rattle.per.proofs.Laws.{one-shl}
@@ -17,7 +17,7 @@ use Rattle.numeric_strings.specs.Spacing.{spacedOctet, spacedOctets}
 octets-pos : (k : ℕ) → 0 < 256 ^ k
 octets-pos k = one-le-pow k 256 (omega arith)
 
-pow-octets : (k : ℕ) → 2 ^ (k * 8) ≡ 256 ^ k
+pub pow-octets : (k : ℕ) → 2 ^ (k * 8) ≡ 256 ^ k
 pow-octets zero = refl
 pow-octets (suc k) = let e : suc k * 8 ≡ k * 8 + 8 = omega arith in rw (e, pow-add 2 (k * 8) 8, pow-suc 256 k, pow-octets k)
 

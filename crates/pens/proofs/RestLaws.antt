@@ -2,19 +2,20 @@
 use mathlib.Core.Path.{_≡_, refl, sym, ap, _∙_}
 use mathlib.Core.Bool.{Bool, true, false, cond, _&&_, _||_}
 use mathlib.Core.List.{List, [], _∷_}
-use Prim.Native.Nat.{ℕ, zero, suc, _+_, _-_, _*_, _≤_, _<_}
+use Prim.Native.Nat.{ℕ, suc, _+_, _-_, _*_, _≤_, _<_}
 use native.Mathlib.Omega.{arith}
 use lib.ListN.{getD, drop}
 use lib.Dec.{eqb}
 use borrow.Author.Tests.{eqb-true, eqb-false, eq-eqb, ne-eqb}
 use Rattle.x691.specs.Bits.{stretch}
 use Rattle.x691.specs.Range.{member}
-use Rattle.atn.specs.Reading.{Rec, rec}
+use Rattle.atn.specs.Reading.{rec}
 use Rattle.record_lists.specs.Items.{Item, plain, bits, tagOf, look}
 use Rattle.record_lists.specs.Kinds.{spanTag}
 use Rattle.record_lists.specs.Parse.{opens, begins, same}
 use Rattle.record_lists.proofs.Forth.{differ}
 use Rattle.record_lists.specs.Message.{recordsFrom}
+use Rattle.record_lists.proofs.First.{and-no}
 use Rattle.pens.specs.Rest.{rest, items}
 
 -- what a record shows
@@ -45,10 +46,6 @@ tag-of b t e v s = go (spanTag t)
     go : (a : Bool) → tagOf (cond a (bits t e (stretch b v s)) (plain t e v s)) ≡ t
     go true = refl
     go false = refl
-
-and-no : (a : Bool) → a && false ≡ false
-and-no true = refl
-and-no false = refl
 
 eqb-swap : (a c : ℕ) → eqb a c ≡ eqb c a
 eqb-swap a c = go (eqb c a) refl

@@ -12,7 +12,7 @@ use lib.Dec.{leb, lit<}
 use lib.Pow.{mod-pow-add, shr-shr, high, low, pow-lt, pow-pos}
 use borrow.Author.Tests.{le-leb, lt-leb}
 use Rattle.x691.specs.Bits.{bitOf, uint}
-use Rattle.x691.proofs.BitLaws.{bitOf-lt, uint-lt, uint-more}
+use Rattle.x691.proofs.BitLaws.{bitOf-lt, uint-lt, more}
 
 pub uint-below : (s : List ℕ) (at n : ℕ) → uint (bitOf s) at n < 2 ^ n
 uint-below s at n = uint-lt (bitOf s) (bitOf-lt s) at n
@@ -24,10 +24,6 @@ uint-below-wide w s at n h = omega (arith, uint-below s at n, pow-le-pow-right {
 nothing : (b : ℕ → ℕ) (at : ℕ) → uint b at 0 ≡ 0
 unfolding uint
 nothing b at = refl
-
--- the last bit apart
-more : (b : ℕ → ℕ) (at n : ℕ) → uint b at (suc n) ≡ uint b at n * 2 + b (at + n)
-more b at n = rw add-one at (uint-more b at n)
 
 -- bits side by side
 pub uint-split : (b : ℕ → ℕ) (at m n : ℕ) → uint b at (m + n) ≡ uint b at m * 2 ^ n + uint b (at + m) n

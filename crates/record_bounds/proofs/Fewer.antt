@@ -17,17 +17,8 @@ use Rattle.atn.specs.Reading.{Rec, rec, Ctx, packs, pack, coded, spaced, noneAb
 use Rattle.atn.specs.Told.{tell, tellFields, tellPick, tellAny, tellAll}
 use Rattle.atn.specs.Entries.{accept, readFrame}
 use Rattle.atn.proofs.Demands.{Message, clean-message}
+use Rattle.atn.proofs.Texts.{length-coded, length-spaced}
 use Rattle.record_bounds.specs.Most.{texts, most, mostFields, mostAlts}
-
-length-coded : (c : ℕ) (us : List ℕ) → length (coded c us) ≡ length us
-unfolding coded
-length-coded c [] = refl
-length-coded c (u ∷ us) = ap suc (length-coded c us)
-
-length-spaced : (us : List ℕ) → length (spaced us) ≡ length us
-unfolding spaced
-length-spaced [] = refl
-length-spaced (u ∷ us) = ap suc (length-spaced us)
 
 length-packs : (t m q n k : ℕ) (cs : List ℕ) → length (packs t m q n k cs) ≡ k
 unfolding packs

@@ -1,37 +1,37 @@
 -- From what a plain value in range shows, the value is got back, where the format is clear.
 use mathlib.Core.Path.{_≡_, refl, sym, ap, _∙_}
-use mathlib.Core.Bool.{Bool, true, false, cond, not, _&&_, _||_}
-use mathlib.Core.Option.{Option, none, some}
-use mathlib.Core.Logic.{_⊎_, inl, inr}
+use mathlib.Core.Bool.{Bool, true, false, not, _&&_, _||_}
+use mathlib.Core.Option.{none, some}
+use mathlib.Core.Logic.{inl, inr}
 use mathlib.Core.List.{List, [], _∷_, _++_, append-assoc}
-use Prim.Native.Nat.{ℕ, zero, suc, _+_, _-_, _*_, _/_, _%_, _^_, _≤_, _<_, min}
+use Prim.Native.Nat.{ℕ, zero, suc, _+_, _-_, _*_, _/_, _%_, _^_, _≤_, _<_}
 use native.Mathlib.Omega.{arith}
-use native.Mathlib.Nat.{mod-lt, mod-eq-of-lt, div-eq-of-lt, mul-add-div-right, mul-add-mod-self-right, mul-div-cancel, pow-succ', one-le-pow, add-zero, zero-add}
+use native.Mathlib.Nat.{mod-lt, mod-eq-of-lt, div-eq-of-lt, mul-add-div-right, mul-add-mod-self-right, mul-div-cancel, add-zero, zero-add}
 use lib.ListN.{length, drop, take, getD, length-take, length-drop, take-append-drop}
 use lib.Dec.{leb, ltb, eqb}
-use lib.Arith.{digits-lt}
-use borrow.Author.Tests.{leb-true, eqb-true, not-true, lt-ltb, le-leb, lt-leb, eq-eqb, ne-eqb}
+use borrow.Author.Tests.{leb-true, eqb-true, lt-ltb, le-leb, eq-eqb, ne-eqb}
 use Rattle.x691.specs.Bits.{Spells}
 use Rattle.x691.specs.Types.{Value, Values, Pick, extent}
-use Rattle.x691.specs.Encoding.{width, unitBits, encode, index}
-use Rattle.x691.specs.Range.{member, All, IfAny, InRange, AllInRange, PickInRange}
+use Rattle.x691.specs.Encoding.{unitBits, encode, index}
+use Rattle.x691.specs.Range.{member, All, InRange, AllInRange, PickInRange}
 use Rattle.x691.proofs.Widths.{width-pow}
 use Rattle.atn.specs.Format.{Fmt, num, listed, name, text, span, anySpan, skipped, small, null, noted, placed, marked, refuse, element, ext, seq, loose, choice, many, inner, soft, lax}
 use Rattle.atn.specs.Format.{Flds, end, _⨾_, _⨾?_, orNote, unread, Alts, none-left, _∥_, typeOf, membersOf, alternativesOf, Letters, first, numeric}
-use Rattle.atn.specs.Reading.{Ctx, word, octets, coded, spaced, units}
+use Rattle.atn.specs.Reading.{Ctx, word, octets, coded, spaced}
 use Rattle.atn.proofs.Inverse.{both}
 use Rattle.atn.proofs.Steps.{units-back}
+use Rattle.atn.proofs.Texts.{length-coded, octets-pos, octets-lt}
 use Rattle.record_lists.specs.Items.{Item, plain, bits, tagOf}
 use Rattle.record_lists.specs.Shown.{packed, spelt, inLetters, spanned, showAny, showAll, shown, shownFields, shownPick}
 use Rattle.record_lists.specs.Clear.{apart, solid, solidFields, firsts, firstsFields, single, unlike, ahead, clear, clearLetters, clearFields, clearAlts}
-use Rattle.record_lists.specs.Parse.{opens, valueIn, valueOf, secondIn, secondOf, bitsIn, bitsAt, sameNumbers, same, begins, above, characters, spelled, uncoded, codeOf, textOf, unitsOf, allBelow, goodSize, Got, no, got, peel, leaf, keep, feed, turn, several, perhaps, parse, parseFields, parsePick}
+use Rattle.record_lists.specs.Parse.{opens, valueIn, valueOf, secondIn, secondOf, bitsIn, bitsAt, sameNumbers, same, begins, above, characters, spelled, uncoded, codeOf, textOf, unitsOf, allBelow, goodSize, Got, got, peel, leaf, keep, feed, turn, several, perhaps, parse, parseFields, parsePick}
 use Rattle.record_lists.specs.Plain.{Says, Unless, AllFrom, Plain, PlainFields, PlainPick}
 use Rattle.record_lists.proofs.Forth.{differ}
-use Rattle.record_lists.proofs.First.{Lead, Follows, member-own, lead-follow, length-span, span-some, lead-all, lead, leadFields, opens-yes, solid-says, opens-no}
+use Rattle.record_lists.proofs.First.{Lead, Follows, lead-follow, length-span, span-some, lead-all, lead, leadFields, opens-yes, solid-says, opens-no}
 
 ---------------------------------------------------------------- items
 
-same-numbers : (xs : List ℕ) → sameNumbers xs xs ≡ true
+pub same-numbers : (xs : List ℕ) → sameNumbers xs xs ≡ true
 unfolding sameNumbers
 same-numbers [] = refl
 same-numbers (x ∷ xs) = rw (eq-eqb x x refl) (same-numbers xs)
@@ -90,15 +90,6 @@ above-back lo v hi l g = go v l (omega (arith, g, mod-lt (hi + (1844674407370955
 
 ---------------------------------------------------------------- texts
 
-octets-pos : (k : ℕ) → 0 < 256 ^ k
-octets-pos k = one-le-pow k 256 (omega arith)
-
-octets-lt : (k : ℕ) (cs : List ℕ) → All (λ c. c < 256) cs → octets k cs < 256 ^ k
-unfolding octets
-octets-lt zero cs g = omega arith
-octets-lt (suc k) [] g = octets-pos (suc k)
-octets-lt (suc k) (c ∷ cs) g = rw (pow-succ' 256 k) (digits-lt (g .0) (octets-lt k cs (g .1)))
-
 coded-all : (c n : ℕ) (cs : List ℕ) → c + n ≤ 256 → All (λ u. u < n) cs → All (λ u. u < 256) (coded c cs)
 unfolding coded
 coded-all c n [] l g = tt
@@ -136,11 +127,6 @@ spelt-in-back : (t m : ℕ) (cs : List ℕ) (R : List Item) (k : ℕ) → (lengt
 unfolding packed secondOf secondIn
 spelt-in-back t m cs R zero q l a = absurd (omega arith)
 spelt-in-back t m cs R (suc k) q l a = rw q (spelled-back t m (length cs) (suc k) cs R a (omega arith))
-
-length-coded : (c : ℕ) (cs : List ℕ) → length (coded c cs) ≡ length cs
-unfolding coded
-length-coded c [] = refl
-length-coded c (u ∷ cs) = ap suc (length-coded c cs)
 
 text-back : (t m n c lo : ℕ) (cs : List ℕ) (R : List Item) → 1 ≤ lo → c + n ≤ 256 → lo ≤ length cs → All (λ u. u < n) cs → textOf c (spelt t m (coded c cs) ++ R) ≡ cs
 unfolding textOf spelt

@@ -1,41 +1,30 @@
 -- A value of a CPDLC message is plain unless it is one of the two exceptions of request a).
 use mathlib.Core.Path.{_≡_, refl}
-use mathlib.Core.Bool.{Bool, true, false, _&&_}
+use mathlib.Core.Bool.{true}
 use mathlib.Core.Option.{Option, none, some}
 use mathlib.Core.Logic.{inl, inr}
-use mathlib.Core.List.{List, [], _∷_, _++_}
+use mathlib.Core.List.{List, [], _∷_}
 use Prim.Native.Nat.{ℕ, zero, suc}
-use lib.ListN.{getD}
 use Rattle.x691.specs.Types.{Value}
 use Rattle.x691.specs.Range.{IfAny, member}
-use Rattle.atn.specs.Format.{Fmt, Alts, typeOf, many, element, choice, seq, span, _⨾_, end}
+use Rattle.atn.specs.Format.{Fmt, typeOf, many, element, choice, seq, span, _⨾_, end}
 use Rattle.atn.specs.Messages.{dateTimeGroup, ia5, arguments, noReader, argumentOf, elements, constrainedData, messageData, atcMessage, protectedMessage, forward, aircraftPdus, groundPdus}
 use Rattle.atn.specs.Tags as tag
 use Rattle.atn.specs.Reading.{word}
-use Rattle.atn.proofs.Inverse.{both}
-use Rattle.record_lists.specs.Shown.{shown, shownFields, showAny, showAll}
+use Rattle.atn.proofs.Elements.{every, every-get}
+use Rattle.record_lists.specs.Shown.{shown, showAny, showAll}
 use Rattle.record_lists.specs.Clear.{solid, firsts, single, unlike}
 use Rattle.record_lists.specs.Parse.{same, begins}
-use Rattle.record_lists.specs.Plain.{Says, Unless, Plain, PlainFields}
-use Rattle.record_lists.specs.Exceptions.{NoDefault, Held, dataSpares, messageSpares, protectedSpares, forwardSpares, aircraftSpares, groundSpares}
+use Rattle.record_lists.specs.Plain.{Plain}
+use Rattle.record_lists.specs.Exceptions.{dataSpares, messageSpares, protectedSpares, forwardSpares, aircraftSpares, groundSpares}
 use Rattle.record_lists.proofs.Firm.{firm, firmAlts, plain-all}
 
 ---------------------------------------------------------------- the elements of any lent table
 
-unfoldable every : List Fmt → Bool
-every [] = true
-every (f ∷ fs) = firm f && every fs
-
-every-get : (fs : List Fmt) (d : Fmt) (k : ℕ) → every fs ≡ true → firm d ≡ true → firm (getD fs k d) ≡ true
-unfolding every
-every-get [] d k h g = g
-every-get (f ∷ fs) d zero h g = both (firm f) (every fs) h .0
-every-get (f ∷ fs) d (suc k) h g = every-get fs d k (both (firm f) (every fs) h .1) g
-
 argument-firm : (k : ℕ) → firm (argumentOf k) ≡ true
 unfolding argumentOf firm solid every
 argument-firm zero = refl
-argument-firm (suc k) = every-get arguments noReader k refl refl
+argument-firm (suc k) = every-get firm arguments noReader k refl refl
 
 elements-firm : (table : List ℕ) → firmAlts (elements table) ≡ true
 unfolding elements firm

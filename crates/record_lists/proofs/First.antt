@@ -1,29 +1,29 @@
 -- What a value shows begins with one of its format's first tags.
-use mathlib.Core.Path.{_≡_, refl, sym, ap, _∙_}
+use mathlib.Core.Path.{_≡_, refl, sym, _∙_}
 use mathlib.Core.Bool.{Bool, true, false, cond, not, _&&_, _||_}
-use mathlib.Core.Option.{Option, none, some}
-use mathlib.Core.Logic.{_⊎_, inl, inr}
+use mathlib.Core.Option.{none, some}
 use mathlib.Core.List.{List, [], _∷_, _++_}
 use Prim.Native.Nat.{ℕ, zero, suc, _+_, _-_, _*_, _/_, _^_, _≤_, _<_}
 use native.Mathlib.Omega.{arith}
 use native.Mathlib.Nat.{mul-pos}
-use lib.ListN.{length, drop}
-use lib.Dec.{leb, ltb, eqb}
-use borrow.Author.Tests.{leb-true, leb-false, eqb-true, not-true, lt-leb, le-leb, eq-eqb, ne-eqb}
-use Rattle.x691.specs.Types.{Value, Values, Pick}
-use Rattle.x691.specs.Encoding.{width, unitBits, encode}
-use Rattle.x691.specs.Range.{member, All, IfAny, InRange, AllInRange, PickInRange}
+use lib.ListN.{length}
+use lib.Dec.{leb, eqb}
+use borrow.Author.Tests.{leb-true, eqb-true, not-true, lt-leb, eq-eqb}
+use Rattle.x691.specs.Types.{Value, Values}
+use Rattle.x691.specs.Encoding.{unitBits}
+use Rattle.x691.specs.Range.{member, All, InRange, AllInRange}
 use Rattle.x691.proofs.Widths.{width-pow}
 use Rattle.atn.specs.Format.{Fmt, num, listed, name, text, span, anySpan, skipped, small, null, noted, placed, marked, refuse, element, ext, seq, loose, choice, many, inner, soft, lax}
-use Rattle.atn.specs.Format.{Flds, end, _⨾_, _⨾?_, orNote, unread, Alts, none-left, _∥_, typeOf, membersOf, alternativesOf, Letters, first, numeric}
+use Rattle.atn.specs.Format.{Flds, end, _⨾_, _⨾?_, orNote, unread, typeOf, membersOf, Letters, first, numeric}
 use Rattle.atn.specs.Reading.{Ctx, coded, spaced}
 use Rattle.atn.proofs.Inverse.{both}
 use Rattle.atn.proofs.Steps.{length-units}
-use Rattle.record_lists.specs.Items.{Item, plain, bits, tagOf}
-use Rattle.record_lists.specs.Shown.{packed, spelt, inLetters, spanned, showAny, showAll, shown, shownFields, shownPick}
-use Rattle.record_lists.specs.Clear.{apart, solid, solidFields, firsts, firstsFields, single, unlike, ahead}
-use Rattle.record_lists.specs.Parse.{opens, same, begins}
-use Rattle.record_lists.specs.Plain.{Says, Unless}
+use Rattle.atn.proofs.Texts.{length-coded}
+use Rattle.record_lists.specs.Items.{Item, plain, tagOf}
+use Rattle.record_lists.specs.Shown.{packed, spelt, inLetters, spanned, showAny, showAll, shown, shownFields}
+use Rattle.record_lists.specs.Clear.{apart, solid, solidFields, firsts, firstsFields, ahead}
+use Rattle.record_lists.specs.Parse.{opens}
+use Rattle.record_lists.specs.Plain.{Says}
 use Rattle.record_lists.proofs.Forth.{differ}
 
 -- a list that begins with one of F, or is empty where it need not show anything
@@ -38,7 +38,7 @@ Follows G (i ∷ R) = member (tagOf i) G ≡ true
 
 ---------------------------------------------------------------- truths, and members
 
-and-no : (a : Bool) → a && false ≡ false
+pub and-no : (a : Bool) → a && false ≡ false
 and-no true = refl
 and-no false = refl
 
@@ -94,11 +94,6 @@ lead-packed : (t m lo n : ℕ) (cs : List ℕ) (k : ℕ) → (n + 7) / 8 ≡ k �
 unfolding packed tagOf
 lead-packed t m lo n cs zero q h = lt-leb 1 lo (omega arith)
 lead-packed t m lo n cs (suc k) q h = member-own t
-
-length-coded : (c : ℕ) (cs : List ℕ) → length (coded c cs) ≡ length cs
-unfolding coded
-length-coded c [] = refl
-length-coded c (u ∷ cs) = ap suc (length-coded c cs)
 
 lead-letters : (t m lo : ℕ) (c : Letters) (cs : List ℕ) → lo ≤ length cs → Lead (t ∷ []) (leb 1 lo) (inLetters t c m cs)
 unfolding spelt packed coded spaced tagOf

@@ -1,23 +1,22 @@
 -- A list from which a value is got is what that value shows, and the rest; and the value is in range.
 use mathlib.Core.Path.{_≡_, refl, sym, ap, _∙_}
 use mathlib.Core.Bool.{Bool, true, false, cond, not, _&&_}
-use mathlib.Core.Option.{Option, none, some}
-use mathlib.Core.Logic.{_⊎_, inl, inr}
+use mathlib.Core.Option.{Option}
 use mathlib.Core.List.{List, [], _∷_, _++_, append-assoc}
 use Prim.Native.Nat.{ℕ, zero, suc, _+_, _^_, _≤_, _<_}
 use native.Mathlib.Omega.{arith}
 use lib.ListN.{length, drop}
 use lib.Dec.{leb, ltb, eqb}
-use borrow.Author.Tests.{ltb-true, leb-true, eqb-true}
+use borrow.Author.Tests.{ltb-true, leb-true, eqb-true, not-false}
 use Rattle.x691.specs.Types.{Value, Values, Pick, extent}
-use Rattle.x691.specs.Encoding.{unitBits, encode, index}
+use Rattle.x691.specs.Encoding.{encode, index}
 use Rattle.x691.specs.Range.{member, All, IfAny, InRange, AllInRange, PickInRange}
 use Rattle.atn.specs.Format.{Fmt, num, listed, name, text, span, anySpan, skipped, small, null, noted, placed, marked, refuse, element, ext, seq, loose, choice, many, inner, soft, lax}
 use Rattle.atn.specs.Format.{Flds, end, _⨾_, _⨾?_, orNote, unread, Alts, none-left, _∥_, typeOf, membersOf, alternativesOf}
-use Rattle.atn.specs.Reading.{Ctx, word, coded}
+use Rattle.atn.specs.Reading.{Ctx}
 use Rattle.atn.proofs.Inverse.{both}
 use Rattle.record_lists.specs.Items.{Item, plain, bits}
-use Rattle.record_lists.specs.Shown.{spelt, spanned, showAny, showAll, shown, shownFields, shownPick}
+use Rattle.record_lists.specs.Shown.{showAny, showAll, shown, shownFields, shownPick}
 use Rattle.record_lists.specs.Clear.{firsts}
 use Rattle.record_lists.specs.Parse.{opens, valueOf, bitsAt, sameNumbers, same, begins, above, codeOf, textOf, unitsOf, allBelow, goodSize, Got, no, got, peel, leaf, keep, feed, turn, several, perhaps, parse, parseFields, parsePick}
 
@@ -146,10 +145,6 @@ module _ {A : Type 0} (P : A → Type 0) (h : A → List Item) (p : List Item �
       let y = turn-inv _ (k (drop n R)) q in
       let b = ik (drop n R) (y .0) S (y .1) in
       rw (y .2) ((tt, b .0), onward Z (j (y .0)) S (z refl) (b .1))
-
-not-false : (t : Bool) → not t ≡ false → t ≡ true
-not-false true h = refl
-not-false false h = differ (sym h)
 
 ---------------------------------------------------------------- strings
 

@@ -1,21 +1,21 @@
 -- Every message is clear, whatever tables are lent: a list shows one of its plain values at most.
-use mathlib.Core.Path.{_≡_, refl, sym, ap, _∙_}
-use mathlib.Core.Bool.{Bool, true, false, not, _&&_}
+use mathlib.Core.Path.{_≡_, refl}
+use mathlib.Core.Bool.{Bool, true, _&&_}
 use mathlib.Core.Option.{none, some}
-use mathlib.Core.List.{List, [], _∷_, _++_}
+use mathlib.Core.List.{List, [], _∷_}
 use Prim.Native.Nat.{ℕ, zero, suc}
 use native.Mathlib.Omega.{arith}
 use lib.ListN.{getD}
 use Rattle.x691.specs.Range.{member}
 use Rattle.atn.specs.Format.{Fmt}
-use Rattle.atn.specs.Messages.{noReader, arguments, argumentOf, elements, aircraftPdus, groundPdus, cmGround, cmAircraft, acse}
+use Rattle.atn.specs.Messages.{noReader, arguments, argumentOf, elements, aircraftPdus, groundPdus, acse}
 use Rattle.atn.specs.Tags as tag
 use Rattle.atn.specs.Entries.{pdus, cmOf}
 use Rattle.atn.proofs.Inverse.{both}
-use Rattle.record_lists.specs.Clear.{clear, clearAlts, clearFields, solid, solidFields, firsts, firstsFields, apart, ahead}
+use Rattle.record_lists.specs.Clear.{clear, clearAlts, solid, firsts, apart, ahead}
 use Rattle.record_lists.specs.Kinds.{spanTag, kindOf}
 
-nothing : {A : Type 0} {f : Fmt} → none ≡ some f → A
+pub nothing : {A B : Type 0} {x : B} → none ≡ some x → A
 nothing h = let z : _≡_ {A = ℕ} 0 1 = cc in absurd (omega arith)
 
 clearEach : (ℕ → Bool) → List Fmt → List ℕ → Bool
@@ -74,7 +74,7 @@ clear-acse : clear spanTag acse [] ≡ true
 unfolding clear solid firsts apart ahead spanTag member
 clear-acse = refl
 
-some-is : {f g : Fmt} → some f ≡ some g → f ≡ g
+pub some-is : {A : Type 0} {x y : A} → some x ≡ some y → x ≡ y
 some-is h = cc
 
 pub clear-kind : (k d : ℕ) (down up : List ℕ) {f : Fmt} → kindOf k d down up ≡ some f → clear spanTag f [] ≡ true

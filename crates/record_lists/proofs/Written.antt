@@ -1,8 +1,8 @@
 -- The writer over a format: what it writes is read back clean and shows the same, and what is read clean is written again.
 use mathlib.Core.Path.{_≡_, refl, sym, ap, _∙_}
 use mathlib.Core.Bool.{Bool, true, false, cond}
-use mathlib.Core.Option.{Option, none, some}
-use mathlib.Core.List.{List, [], _∷_, _++_, append-nil}
+use mathlib.Core.Option.{none, some}
+use mathlib.Core.List.{List, [], _∷_, append-nil}
 use Prim.Native.Nat.{ℕ, _+_, _*_, _≤_}
 use native.Mathlib.Omega.{arith}
 use lib.ListN.{length}
@@ -11,7 +11,7 @@ use Rattle.x691.specs.Types.{Value}
 use Rattle.x691.specs.Encoding.{encode}
 use Rattle.x691.specs.Range.{InRange}
 use Rattle.atn.specs.Format.{Fmt, typeOf}
-use Rattle.atn.specs.Reading.{Rec, rec, read, ok}
+use Rattle.atn.specs.Reading.{Rec, rec}
 use Rattle.atn.specs.Told.{tell}
 use Rattle.atn.specs.Entries.{accept, readFrame}
 use Rattle.atn.proofs.Demands.{Message, message-clean}
@@ -23,10 +23,8 @@ use Rattle.record_lists.specs.Plain.{Plain}
 use Rattle.record_lists.specs.Write.{encoded, write}
 use Rattle.record_lists.proofs.Forth.{forth}
 use Rattle.record_lists.proofs.Back.{back}
-use Rattle.record_lists.proofs.Seen.{Seen, seen}
-
-nothing : {A : Type 0} {B : List ℕ} → none ≡ some B → A
-nothing h = let z : _≡_ {A = ℕ} 0 1 = cc in absurd (omega arith)
+use Rattle.record_lists.proofs.Seen.{seen}
+use Rattle.record_lists.proofs.Messages.{nothing}
 
 encoded-inv : (f : Fmt) (x : Got (Value (typeOf f))) {B : List ℕ} → encoded f x ≡ some B → (v : Value (typeOf f)) × (x ≡ got v []) × (B ≡ encode (typeOf f) v)
 unfolding encoded

@@ -2,19 +2,20 @@
 use mathlib.Core.Path.{_≡_, refl, sym, ap, _∙_}
 use mathlib.Core.Bool.{Bool, true, false}
 use mathlib.Core.List.{List, [], _∷_, _++_, append-nil}
-use Prim.Native.Nat.{ℕ, zero, suc, _+_, _-_, _≤_, _<_}
+use Prim.Native.Nat.{ℕ, zero, suc, _+_, _-_, _≤_}
 use native.Mathlib.Omega.{arith}
 use Rattle.x691.specs.Bits.{bitOf}
-use Rattle.atn.specs.Format.{Fmt, Why, out, bad, lack, quit, lax, seq, Flds, end, _⨾_, _⨾?_, orNote}
-use Rattle.atn.specs.Reading.{Rec, rec, Ctx, Ans, ok, past, stop, glue, late, then, fork, or, mark, pull, flags, within, laxly, giveUp, read, readFields}
+use Rattle.atn.specs.Format.{Fmt, out, bad, lack, quit, seq, Flds, end, _⨾_, _⨾?_, orNote}
+use Rattle.atn.specs.Reading.{Rec, rec, Ctx, Ans, ok, past, stop, glue, then, fork, or, mark, pull, flags, within, laxly, giveUp, read, readFields}
 use Rattle.atn.proofs.Steps.{then-nil, fetch-go, fetch-no, pull-go, pull-no}
 use Rattle.atn.proofs.Firm.{isPast, firm, firm-fork, firm-read}
 use Rattle.atn.proofs.Marks.{or-assoc, or-nil, or-commutes, or-swap}
+use Rattle.atn.proofs.Then.{then-end}
 use Rattle.cursor.specs.declared.place.Cursor.{Cursor}
 use Rattle.cursor.specs.declared.place.Got.{Got}
-use Rattle.cursor.specs.Place.{number, put, Inside, Pulled, stuck, short, got, Pulls, Opened, shutAlready, ranShort, opened, Opens, Led, Reads, Takes}
+use Rattle.cursor.specs.Place.{put, Inside, Pulled, stuck, short, got, Pulls, Opened, shutAlready, ranShort, opened, Led, Reads}
 use Rattle.cursor.proofs.Laws.{Behind, pulled-inside}
-use Rattle.cursor.proofs.FormatLaws.{allRead, read-unmarked, opened-inside}
+use Rattle.cursor.proofs.FormatLaws.{allRead, read-unmarked}
 use Rattle.cursor.specs.Place as place
 use Rattle.records.specs.Told.{Told}
 use Rattle.records.proofs.Telling.{told-none, told-then, told-within}
@@ -155,12 +156,6 @@ led-lax-lack t j k (place.Led.failed lack p m S n y a l q) z = place.Led.failed 
 led-lax-lack t j k (place.Led.failed (quit o i v) p m S n y a l q) z = absurd (n refl)
 
 ---------------------------------------------------------------- optional fields and presence bits
-
-then-end : (a : Ans) → then a (λ p. ok p [] 0) ≡ a
-unfolding then glue late
-then-end (ok p R m) = rw (append-nil R, or-nil m)
-then-end (past lacked p R m) = rw (append-nil R, or-nil m)
-then-end (stop w p R m) = refl
 
 fork-then : (v p : ℕ) (a : Ans) (k : ℕ → Ans) (R : List Rec) → then (fork v (ok p R 0) a) k ≡ fork v (then (ok p R 0) k) (then a k)
 unfolding fork

@@ -1,26 +1,24 @@
 -- Texts and fixed bit counts.
 use mathlib.Core.Path.{_≡_, refl, sym, ap, _∙_}
-use mathlib.Core.Bool.{Bool, true, false}
-use mathlib.Core.List.{List, [], _∷_, _++_}
-use Prim.Native.Nat.{ℕ, zero, suc, _+_, _-_, _*_, _/_, _%_, _^_, _≤_, _<_}
+use mathlib.Core.List.{List, [], _∷_}
+use Prim.Native.Nat.{ℕ, suc, _+_, _-_, _*_, _/_, _%_, _^_, _≤_, _<_}
 use native.Mathlib.Nat.{add-zero, mul-one}
 use native.Mathlib.Omega.{arith}
 use lib.ListN.{length}
-use lib.Dec.{leb, ltb}
-use borrow.Author.Tests.{leb-true, leb-false, lt-ltb, eq-eqb}
+use borrow.Author.Tests.{eq-eqb}
 use Rattle.x691.specs.Bits.{bitOf, uint}
 use Rattle.x691.specs.Encoding.{width, widthIn}
-use Rattle.per.proofs.Laws.{uint-below, uint-below-wide}
+use Rattle.per.proofs.Laws.{uint-below-wide}
 use Rattle.per.proofs.Widths.{width-le}
 use Rattle.atn.specs.Format.{text, first, span, out}
-use Rattle.atn.specs.Reading.{Rec, rec, Ans, ok, stop, or, over, unless, then, glue, pull, sized, letters, units, coded, pack, spanned, read}
+use Rattle.atn.specs.Reading.{Rec, rec, Ans, ok, or, over, then, glue, pull, sized, letters, units, coded, pack, spanned, read}
 use Rattle.atn.proofs.Marks.{or-nil}
 use Rattle.atn.proofs.Steps.{pull-go, pull-no, then-nil, over-in}
-use Rattle.character_strings.proofs.TextLaws.{coded-nil}
+use Rattle.character_strings.proofs.TextLaws.{coded-nil, letters-all, letters-out}
 use Rattle.cursor.specs.declared.place.Cursor.{Cursor}
 use Rattle.cursor.specs.declared.place.Got.{Got}
-use Rattle.cursor.specs.Place.{number, put, stopped, marked, Inside, Pulls}
-use Rattle.capped_records.specs.Place.{Put, place}
+use Rattle.cursor.specs.Place.{number, put, stopped, marked, Pulls}
+use Rattle.capped_records.specs.Place.{Put}
 use Rattle.schema_leaves.specs.declared.Step.{Step}
 use Rattle.schema_leaves.specs.Came.{Open, Came, went, failed, Placed}
 use Rattle.schema_leaves.proofs.CameLaws.{at, came-told, came-stopped, came-same, came-short, There, there}
@@ -58,37 +56,6 @@ module _ {s : List ℕ} {a : Step} (o : Open s a) (t n : ℕ) where
       came-same (bits-read ∙ pull-go (bitOf s) (a .c .end) (a .c .at) n _ x ∙ rw g) (came-told 0 (rec t 0 (a .c .at) n (a .c .at)) x (e ∙ rw (or-nil (a .c .marks))) h)
 
 ---------------------------------------------------------------- characters of seven bits
-
-module _ (s : List ℕ) (e : ℕ) where
-  abbrev seven : ℕ → ℕ → (ℕ → Ans) → Ans
-  seven n at k = letters (bitOf s) e 7 128 n at k
-
-  one-more : (n at : ℕ) (k : ℕ → Ans) → at + 7 ≤ e → seven (suc n) at k ≡ seven n (at + 7) k
-  unfolding letters unless
-  one-more n at k h = pull-go (bitOf s) e at 7 _ h ∙ rw (lt-ltb (uint (bitOf s) at 7) 128 (uint-below s at 7)) (then-nil (at + 7) (λ p. seven n p k))
-
-  letters-all : (n at : ℕ) (k : ℕ → Ans) → at + n * 7 ≤ e → seven n at k ≡ k (at + n * 7)
-  unfolding letters
-  letters-all zero at k h = ap k (omega arith)
-  letters-all (suc n) at k h = one-more n at k (omega arith) ∙ letters-all n (at + 7) k (omega arith) ∙ ap k (omega arith)
-
-  -- the place is behind the last whole one
-  letters-out : (n at : ℕ) (k : ℕ → Ans) → at ≤ e → e < at + n * 7 → seven n at k ≡ stop (out (7 - (e - at) % 7)) (at + (e - at) / 7 * 7) [] 0
-  unfolding letters
-  letters-out zero at k l h = absurd (omega arith)
-  letters-out (suc n) at k l h = go (leb (at + 7) e) refl λ y. letters-out n (at + 7) k y (omega arith)
-    where
-      go : (t : Bool) → leb (at + 7) e ≡ t → (at + 7 ≤ e → seven n (at + 7) k ≡ stop (out (7 - (e - (at + 7)) % 7)) (at + 7 + (e - (at + 7)) / 7 * 7) [] 0) → seven (suc n) at k ≡ stop (out (7 - (e - at) % 7)) (at + (e - at) / 7 * 7) [] 0
-      go true q r =
-          let y : at + 7 ≤ e = leb-true (at + 7) e q in
-          let u : 7 - (e - (at + 7)) % 7 ≡ 7 - (e - at) % 7 = omega arith in
-          let v : at + 7 + (e - (at + 7)) / 7 * 7 ≡ at + (e - at) / 7 * 7 = omega arith in
-          one-more n at k y ∙ r y ∙ rw (u, v)
-      go false q r =
-          let y : e < at + 7 = leb-false (at + 7) e q in
-          let u : at + 7 - e ≡ 7 - (e - at) % 7 = omega arith in
-          let v : at ≡ at + (e - at) / 7 * 7 = omega arith in
-          pull-no (bitOf s) e at 7 _ y ∙ rw u (ap (λ (p : ℕ). stop (out (7 - (e - at) % 7)) p [] 0) v)
 
 module _ {s : List ℕ} {a : Step} (o : Open s a) (t lo hi n : ℕ) (g : Got) (l : lo ≤ hi) (h : hi < 1048576) (q : n ≡ width (hi - lo)) (p : Pulls s (a .c) n g) where
   abbrev told : ℕ → ℕ → List Rec

@@ -10,27 +10,13 @@ use lib.Dec.{ltb, eqb}
 use borrow.Author.Tests.{ltb-true, ltb-false}
 use Rattle.x691.specs.Bits.{bitOf, uint}
 use Rattle.atn.specs.Reading.{Rec, rec, octets, packs, pack, coded, spaced, units}
+use Rattle.atn.proofs.Texts.{length-units, length-coded, length-spaced}
 use Rattle.records.specs.Told.{Told}
 use Rattle.records.proofs.Telling.{told-none, told-then, told-within, told-length}
 use Rattle.tell.specs.declared.characters.Run.{Run}
 use Rattle.tell.specs.Characters.{unitsFrom, counted, from}
 
 ---------------------------------------------------------------- characters
-
-length-units : (b : ℕ → ℕ) (w at n : ℕ) → length (units b w at n) ≡ n
-unfolding units
-length-units b w at zero = refl
-length-units b w at (suc n) = ap suc (length-units b w (at + w) n)
-
-length-coded : (c : ℕ) (us : List ℕ) → length (coded c us) ≡ length us
-unfolding coded
-length-coded c [] = refl
-length-coded c (u ∷ us) = ap suc (length-coded c us)
-
-length-spaced : (us : List ℕ) → length (spaced us) ≡ length us
-unfolding spaced
-length-spaced [] = refl
-length-spaced (u ∷ us) = ap suc (length-spaced us)
 
 module _ (s : List ℕ) (r : Run) where
   abbrev unit : ℕ → ℕ

@@ -1,12 +1,11 @@
 -- The two strings as parts of a format, and how their sizes are put.
 use mathlib.Core.Path.{_≡_, refl, sym, ap, _∙_}
 use mathlib.Core.Bool.{true, false}
-use mathlib.Core.List.{List, _∷_}
-use Prim.Native.Nat.{ℕ, suc, _+_, _-_, _*_, _/_, _^_, _≤_, _<_}
+use mathlib.Core.List.{List}
+use Prim.Native.Nat.{ℕ, _+_, _-_, _*_, _/_, _^_, _≤_, _<_}
 use native.Mathlib.Omega.{arith}
 use lib.ListN.{length, getD}
 use lib.Dec.{ltb}
-use lib.Pow.{high, low}
 use borrow.Author.Tests.{le-leb, lt-leb, lt-ltb, le-ltb}
 use Rattle.x691.specs.Bits.{bitOf, bitsOf}
 use Rattle.x691.specs.Encoding.{width, lengthBits, sizeBits, encode}
@@ -18,6 +17,7 @@ use Rattle.record_lists.specs.Parse.{bitsAt, goodSize, parse}
 use Rattle.pens.specs.declared.Pen.{Pen}
 use Rattle.pens.specs.Rest.{items}
 use Rattle.pens.specs.Writes.{Part, Inks}
+use Rattle.pens.proofs.PartLaws.{short-length, long-length}
 use Rattle.write_spans.specs.Spans.{Sends}
 use Rattle.write_spans.proofs.SpanWrites.{string-refused, string-none, string-sent}
 
@@ -38,23 +38,6 @@ size-large lo hi k l h = rw (le-leb lo k l, lt-leb k hi h)
 pub size-good : (lo hi k : ℕ) → lo ≤ k → k ≤ hi → goodSize lo hi k ≡ true
 unfolding goodSize
 size-good lo hi k l h = rw (le-leb lo k l, le-leb k hi h)
-
--- the first bit apart
-bits-front : (n a v : ℕ) → v < 2 ^ n → bitsOf (suc n) (a * 2 ^ n + v) ≡ a ∷ bitsOf n v
-unfolding bitsOf
-bits-front n a v h = rw (high a n h, low a n h)
-
--- a length determinant as one number
-pub length-short : (k : ℕ) → k < 128 → lengthBits k ≡ bitsOf 8 k
-unfolding lengthBits
-length-short k h = rw (lt-ltb k 128 h) (sym (ap (bitsOf 8) (omega arith) ∙ bits-front 7 0 k (omega arith)))
-
-pub length-long : (k : ℕ) → 128 ≤ k → k < 16384 → lengthBits k ≡ bitsOf 16 (32768 + k)
-unfolding lengthBits
-length-long k l h =
-    let x : bitsOf 15 k ≡ 0 ∷ bitsOf 14 k = ap (bitsOf 15) (omega arith) ∙ bits-front 14 0 k (omega arith) in
-    let y : bitsOf 16 (32768 + k) ≡ 1 ∷ bitsOf 15 k = ap (bitsOf 16) (omega arith) ∙ bits-front 15 1 k (omega arith) in
-    rw (le-ltb k 128 l, y, x)
 
 ---------------------------------------------------------------- parts
 
@@ -89,7 +72,7 @@ module _ (src W : List ℕ) (m t e w : ℕ) (unit : 1 ≤ w) (tagged : spanTag t
 
   pub any-empty : r ≡ 0 → Inks p X 8 0 q Y → AnyPart
   unfolding parse encode
-  any-empty h x = string-none (bitOf src) (bitOf-lt src) W m t e w unit tagged (λ n. ltb n 16384) lengthBits p X q Y on (sym h ∙ counted) refl (length-short 0 (omega arith)) x
+  any-empty h x = string-none (bitOf src) (bitOf-lt src) W m t e w unit tagged (λ n. ltb n 16384) lengthBits p X q Y on (sym h ∙ counted) refl (short-length 0 (omega arith)) x
 
   any-put : {n v : ℕ} → (1 ≤ r → (p .next < m) × (getD W (p .next * 5) 0 ≡ t)) → 1 ≤ r → r < 16384 → lengthBits r ≡ bitsOf n v → Sends (bitOf src) W e w n v p X q Y → AnyPart
   unfolding parse encode
@@ -98,7 +81,7 @@ module _ (src W : List ℕ) (m t e w : ℕ) (unit : 1 ≤ w) (tagged : spanTag t
       string-sent (bitOf src) (bitOf-lt src) W m t e w unit tagged (λ n. ltb n 16384) lengthBits p X q Y on (j .0) (j .1) (omega (arith, l, counted)) (rw (← counted) (lt-ltb r 16384 h)) (ap lengthBits (sym counted) ∙ s) x
 
   pub any-short : (1 ≤ r → (p .next < m) × (getD W (p .next * 5) 0 ≡ t)) → 1 ≤ r → r < 128 → Sends (bitOf src) W e w 8 r p X q Y → AnyPart
-  any-short i l h x = any-put i l (omega arith) (length-short r h) x
+  any-short i l h x = any-put i l (omega arith) (short-length r h) x
 
   pub any-long : (1 ≤ r → (p .next < m) × (getD W (p .next * 5) 0 ≡ t)) → 128 ≤ r → r < 16384 → Sends (bitOf src) W e w 16 (32768 + r) p X q Y → AnyPart
-  any-long i l h x = any-put i (omega arith) h (length-long r l h) x
+  any-long i l h x = any-put i (omega arith) h (long-length r l h) x

@@ -11,14 +11,10 @@ use Rattle.x691.specs.Bits.{stretch}
 use Rattle.x691.specs.Encoding.{unitBits, joined}
 use Rattle.record_lists.specs.Items.{Item, bits, tagOf}
 use Rattle.record_lists.specs.Shown.{spanned}
-use Rattle.record_lists.specs.Parse.{bitsIn, bitsAt, sameNumbers, same, unitsOf, allBelow, Got, no, got, peel, leaf}
+use Rattle.record_lists.specs.Parse.{bitsIn, bitsAt, same, unitsOf, allBelow, Got, no, got, peel, leaf}
 use Rattle.record_lists.proofs.Forth.{same-inv}
+use Rattle.record_lists.proofs.Back.{same-numbers}
 use Rattle.write_spans.proofs.UnitLaws.{units-length, units-none, below, counted, spread, units-whole, whole-units}
-
-numbers-same : (xs : List ℕ) → sameNumbers xs xs ≡ true
-unfolding sameNumbers
-numbers-same [] = refl
-numbers-same (x ∷ xs) = rw (eq-eqb x x refl) (numbers-same xs)
 
 one-span : (t e : ℕ) (xs : List ℕ) → 1 ≤ length xs → spanned t e xs ≡ bits t e xs ∷ []
 unfolding spanned
@@ -54,7 +50,7 @@ module _ (fits : ℕ → Bool) (t e w : ℕ) where
           units-whole b bit w v s h,
           eq-eqb t t refl,
           eq-eqb e e refl,
-          numbers-same (stretch b v s),
+          same-numbers (stretch b v s),
         )
 
     pub string-other : (e′ : ℕ) (S : List Item) → 1 ≤ w → fits (s / w) ≡ true → (e ≡ e′ → s % w ≡ 0 → ⊥) → stringAt (bits t e′ (stretch b v s) ∷ S) ≡ no

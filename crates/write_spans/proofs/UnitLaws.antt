@@ -1,27 +1,23 @@
 -- The units of a stretch of bits, and their bits.
 use mathlib.Core.Path.{_≡_, refl, sym, ap, _∙_}
 use mathlib.Core.Bool.{true}
-use mathlib.Core.List.{List, [], _∷_}
+use mathlib.Core.List.{List, []}
 use Prim.Native.Nat.{ℕ, zero, suc, _+_, _*_, _/_, _%_, _^_, _<_}
-use native.Mathlib.Nat.{add-zero, zero-add, div-add-mod'}
+use native.Mathlib.Nat.{zero-add, div-add-mod'}
 use native.Mathlib.Omega.{arith}
 use lib.ListN.{length, getD}
 use borrow.Author.Tests.{lt-ltb}
-use Rattle.x691.specs.Bits.{uint, Spells, stretch}
+use Rattle.x691.specs.Bits.{uint, stretch}
 use Rattle.x691.specs.Encoding.{unitBits}
 use Rattle.x691.proofs.BitLaws.{uint-lt}
 use Rattle.x691.proofs.Widths.{width-pow}
 use Rattle.atn.specs.Reading.{units}
 use Rattle.atn.proofs.Inverse.{units-spelt}
+use Rattle.atn.proofs.Texts.{length-units}
 use Rattle.bit_writer.proofs.Stretches.{stretch-length, spells-stretch}
 use Rattle.record_lists.proofs.Back.{spells-own}
 use Rattle.record_lists.specs.Parse.{unitsOf, allBelow}
 use Rattle.record_lists.proofs.First.{length-span}
-
-length-units : (b : ℕ → ℕ) (w at i : ℕ) → length (units b w at i) ≡ i
-unfolding units
-length-units b w at zero = refl
-length-units b w at (suc i) = ap suc (length-units b w (at + w) i)
 
 pub units-length : (w : ℕ) (xs : List ℕ) → length (unitsOf w xs) ≡ length xs / w
 unfolding unitsOf

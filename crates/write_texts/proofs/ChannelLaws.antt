@@ -2,7 +2,7 @@
 use mathlib.Core.Path.{_≡_, refl, sym, ap, _∙_}
 use mathlib.Core.Bool.{Bool, true, false, cond}
 use mathlib.Core.List.{List, [], _∷_, _++_, append-assoc}
-use Prim.Native.Nat.{ℕ, zero, suc, _+_, _*_, _/_, _≤_, _<_}
+use Prim.Native.Nat.{ℕ, zero, suc, _+_, _*_, _<_}
 use native.Mathlib.Omega.{arith}
 use lib.ListN.{length, drop, getD}
 use lib.Dec.{ltb}
@@ -11,6 +11,7 @@ use Rattle.x691.specs.Bits.{stretch}
 use Rattle.x691.specs.Range.{All}
 use Rattle.atn.specs.Format.{text, first, numeric}
 use Rattle.atn.specs.Reading.{octets, coded, spaced}
+use Rattle.atn.proofs.Texts.{length-coded, length-spaced, drop-coded, drop-spaced}
 use Rattle.record_lists.specs.Items.{Item, plain, bits}
 use Rattle.record_lists.specs.Kinds.{spanTag}
 use Rattle.record_lists.specs.Clear.{clear}
@@ -22,19 +23,7 @@ use Rattle.pens.specs.Rest.{items}
 use Rattle.pens.proofs.RestLaws.{itemOf, items-end, items-cons}
 use Rattle.numeric_strings.specs.Spacing.{spacedOctets}
 use Rattle.numeric_strings.proofs.SpacingLaws.{octets-spaced}
-use Rattle.write_texts.proofs.TextLaws.{length-coded, tags, follows}
-use Rattle.write_texts.proofs.RecordLaws.{coded-drop}
-
-length-spaced : (us : List ℕ) → length (spaced us) ≡ length us
-unfolding spaced
-length-spaced [] = refl
-length-spaced (u ∷ us) = ap suc (length-spaced us)
-
-spaced-drop : (k : ℕ) (us : List ℕ) → drop k (spaced us) ≡ spaced (drop k us)
-unfolding spaced
-spaced-drop zero us = refl
-spaced-drop (suc k) [] = refl
-spaced-drop (suc k) (u ∷ us) = spaced-drop k us
+use Rattle.write_texts.proofs.TextLaws.{tags, follows}
 
 -- twelve characters are two items
 two : (t e : ℕ) (cs : List ℕ) → length cs ≡ 12 → spelt t e cs ≡ plain t e (octets 8 cs) 12 ∷ plain t e (octets 8 (drop 8 cs)) 12 ∷ []
@@ -165,5 +154,5 @@ module _ (b : ℕ → ℕ) (W : List ℕ) (m i t e w x : ℕ) (p : i + 0 < m →
       let g = rw n at (front-value b W m (suc i) t e _ _ _ (f .2)) in
       let o : i + 0 ≡ i = omega arith in
       let w0 : w ≡ octets 8 (coded 48 v) = (rw o at p) (f .0) ∙ f .1 in
-      let x0 : x ≡ octets 8 (coded 48 (drop 8 v)) = q (g .0) ∙ g .1 ∙ ap (octets 8) (coded-drop 48 8 v) in
-      (rw w0 (octets-spaced 8 v (few v a)), rw (x0, spaced-drop 8 v) (octets-spaced 8 (drop 8 v) (few (drop 8 v) (all-drop 8 v a))))
+      let x0 : x ≡ octets 8 (coded 48 (drop 8 v)) = q (g .0) ∙ g .1 ∙ ap (octets 8) (drop-coded 8 48 v) in
+      (rw w0 (octets-spaced 8 v (few v a)), rw (x0, drop-spaced 8 v) (octets-spaced 8 (drop 8 v) (few (drop 8 v) (all-drop 8 v a))))

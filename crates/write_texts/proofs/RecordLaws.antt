@@ -7,6 +7,7 @@ use lib.ListN.{length, take, drop, length-append, length-drop, take-append-drop}
 use borrow.Author.Tests.{eq-eqb}
 use Rattle.x691.specs.Range.{All}
 use Rattle.atn.specs.Reading.{octets, coded}
+use Rattle.atn.proofs.Texts.{drop-coded}
 use Rattle.record_lists.specs.Items.{Item, plain}
 use Rattle.record_lists.specs.Shown.{packed}
 use Rattle.record_lists.specs.Parse.{valueIn, valueOf, same, got, peel, feed, turn}
@@ -25,12 +26,6 @@ all-drop : (n k : ℕ) (us : List ℕ) → All (λ u. u < n) us → All (λ u. u
 all-drop n zero us a = a
 all-drop n (suc k) [] a = a
 all-drop n (suc k) (u ∷ us) a = all-drop n k us (a .1)
-
-pub coded-drop : (c k : ℕ) (us : List ℕ) → drop k (coded c us) ≡ coded c (drop k us)
-unfolding coded
-coded-drop c zero us = refl
-coded-drop c (suc k) [] = refl
-coded-drop c (suc k) (u ∷ us) = coded-drop c k us
 
 -- us are the first k characters, or all
 module _ (c : ℕ) (vs : List ℕ) where
@@ -95,5 +90,5 @@ module _ (t e n c s : ℕ) where
   records-go zero (u ∷ v) S h a l = absurd (omega arith)
   records-go (suc i) v S h a l =
       let d = length-drop 8 v in
-      rw (record-go v (packed t e s i (drop 8 (coded c v)) ++ S) h a, coded-drop c 8 v, ← (length-drop 8 v), records-go i (drop 8 v) S h (all-drop n 8 v a) (omega (arith, d)))
+      rw (record-go v (packed t e s i (drop 8 (coded c v)) ++ S) h a, drop-coded 8 c v, ← (length-drop 8 v), records-go i (drop 8 v) S h (all-drop n 8 v a) (omega (arith, d)))
       (ap (λ (z : List ℕ). got z S) (take-append-drop 8 v))

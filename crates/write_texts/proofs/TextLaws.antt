@@ -2,13 +2,14 @@
 use mathlib.Core.Path.{_≡_, refl, sym, ap, _∙_}
 use mathlib.Core.Bool.{false}
 use mathlib.Core.List.{List, [], _∷_, _++_}
-use Prim.Native.Nat.{ℕ, suc, _+_, _/_, _≤_, _<_}
+use Prim.Native.Nat.{ℕ, _+_, _/_, _≤_, _<_}
 use native.Mathlib.Omega.{arith}
 use lib.ListN.{length}
 use borrow.Author.Tests.{eq-eqb, le-leb}
 use Rattle.x691.specs.Range.{All, member}
 use Rattle.atn.specs.Format.{text, first}
 use Rattle.atn.specs.Reading.{coded}
+use Rattle.atn.proofs.Texts.{length-coded}
 use Rattle.record_lists.specs.Items.{Item, tagOf}
 use Rattle.record_lists.specs.Clear.{clear}
 use Rattle.record_lists.specs.Shown.{packed, spelt, shown}
@@ -18,11 +19,6 @@ use Rattle.record_lists.proofs.Forth.{forth, nothing}
 use Rattle.record_lists.proofs.Back.{back}
 use Rattle.write_texts.specs.Letters.{inRecords}
 use Rattle.write_texts.proofs.RecordLaws.{records-inv, records-go}
-
-pub length-coded : (c : ℕ) (cs : List ℕ) → length (coded c cs) ≡ length cs
-unfolding coded
-length-coded c [] = refl
-length-coded c (u ∷ cs) = ap suc (length-coded c cs)
 
 -- a list follows the tag of its first item
 pub tags : List Item → List ℕ

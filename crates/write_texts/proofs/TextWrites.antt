@@ -9,10 +9,11 @@ use Rattle.x691.specs.Bits.{bitsOf, stretch}
 use Rattle.x691.specs.Encoding.{width, sizeBits, unitBits, encode}
 use Rattle.atn.specs.Format.{text, first}
 use Rattle.atn.specs.Reading.{octets, coded}
+use Rattle.atn.proofs.Texts.{length-coded}
 use Rattle.record_lists.specs.Items.{Item, plain, bits}
 use Rattle.record_lists.specs.Kinds.{spanTag}
 use Rattle.record_lists.specs.Shown.{packed, spelt}
-use Rattle.record_lists.specs.Parse.{no, got, feed, parse}
+use Rattle.record_lists.specs.Parse.{got, feed, parse}
 use Rattle.pens.specs.declared.Pen.{Pen}
 use Rattle.pens.specs.Rest.{items}
 use Rattle.pens.specs.Writes.{Writes, Inks, Part}
@@ -21,7 +22,7 @@ use Rattle.pens.proofs.PenLaws.{then-writes}
 use Rattle.write_texts.specs.Letters.{inRecords}
 use Rattle.write_texts.proofs.GotLaws.{turn-same}
 use Rattle.write_texts.proofs.RecordLaws.{records-inv}
-use Rattle.write_texts.proofs.TextLaws.{length-coded, good-size, other-size}
+use Rattle.write_texts.proofs.TextLaws.{good-size, other-size}
 use Rattle.pens.proofs.GotLaws.{writes-as, writes-none, writes-ink}
 
 -- the second number of the front record is the size

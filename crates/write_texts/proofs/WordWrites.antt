@@ -1,17 +1,17 @@
 -- The characters of a word written.
 use mathlib.Core.Path.{_≡_, refl}
-use mathlib.Core.Bool.{Bool, true, false, _&&_}
+use mathlib.Core.Bool.{true}
 use mathlib.Core.List.{List, [], _∷_, _++_}
 use Prim.Native.Nat.{ℕ, zero, suc, _+_, _-_, _*_, _/_, _%_, _^_, _≤_, _<_}
-use native.Mathlib.Nat.{pow-succ'}
 use native.Mathlib.Omega.{arith}
 use lib.Dec.{leb}
-use lib.Pow.{pow-add}
 use borrow.Author.Tests.{lt-ltb, le-ltb, le-leb, lt-leb, ne-eqb}
 use Rattle.x691.specs.Bits.{bitsOf}
 use Rattle.x691.specs.Encoding.{width, joined, unitBits}
 use Rattle.record_lists.specs.Items.{Item}
-use Rattle.record_lists.specs.Parse.{no, got, same, turn}
+use Rattle.record_lists.specs.Parse.{got}
+use Rattle.record_lists.proofs.First.{and-no}
+use Rattle.numeric_strings.proofs.SpacingLaws.{pow-octets}
 use Rattle.pens.specs.declared.Pen.{Pen}
 use Rattle.pens.specs.Writes.{Writes, Inks}
 use Rattle.pens.proofs.PenLaws.{then-writes}
@@ -19,10 +19,6 @@ use Rattle.write_texts.specs.Letters.{inOctet, inWord}
 use Rattle.pens.proofs.GotLaws.{writes-as, writes-none, writes-nothing, writes-ink}
 
 ---------------------------------------------------------------- one character
-
-and-no : (a : Bool) → a && false ≡ false
-and-no true = refl
-and-no false = refl
 
 module _ (n c x : ℕ) (T : ℕ → List Item) (m : ℕ) (p : Pen) (X : List ℕ) (q : Pen) (Y : List ℕ) where
   pub character-in : (k : ℕ) → k ≡ width (n - 1) → c ≤ x → x - c < n → Inks p X k (x - c) q Y → Writes (λ u. bitsOf (width (n - 1)) u) (λ R. inOctet n c x R) T m p X q Y
@@ -40,10 +36,6 @@ module _ (n c x : ℕ) (T : ℕ → List Item) (m : ℕ) (p : Pen) (X : List ℕ
 
 ---------------------------------------------------------------- the characters of a word
 
-octet-pow : (k : ℕ) → 2 ^ (k * 8) ≡ 256 ^ k
-octet-pow zero = refl
-octet-pow (suc k) = let e : suc k * 8 ≡ 8 + k * 8 = omega arith in rw (e, pow-add 2 8 (k * 8), octet-pow k, pow-succ' 256 k)
-
 units-cons : (n u : ℕ) (us : List ℕ) → unitBits n (u ∷ us) ≡ bitsOf (width (n - 1)) u ++ unitBits n us
 unfolding unitBits joined
 units-cons n u us = refl
@@ -53,7 +45,7 @@ module _ (n c : ℕ) (T : ℕ → List Item) (m : ℕ) where
       → Writes (λ us. unitBits n us) (λ R. inWord n c j k (w % 2 ^ (k * 8)) R) T m q Y r Z → Writes (λ us. unitBits n us) (λ R. inWord n c (suc j) (suc k) w R) T m p X r Z
   unfolding inWord
   word-more j k w p q r X Y Z a b =
-      rw (octet-pow k) at (then-writes (λ u. bitsOf (width (n - 1)) u) (λ us. unitBits n us) (λ us. unitBits n us) _ _ (λ u us. u ∷ us) (units-cons n) T m p q r X Y Z a b)
+      rw (pow-octets k) at (then-writes (λ u. bitsOf (width (n - 1)) u) (λ us. unitBits n us) (λ us. unitBits n us) _ _ (λ u us. u ∷ us) (units-cons n) T m p q r X Y Z a b)
 
   -- the same as a turn of the loop has it: o octets are left, of which s have no character
   pub word-turn : (o s w : ℕ) (p q r : Pen) (X Y Z : List ℕ) → s < o → Writes (λ u. bitsOf (width (n - 1)) u) (λ R. inOctet n c (w / 2 ^ ((o - 1) * 8)) R) T m p X q Y

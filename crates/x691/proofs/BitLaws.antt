@@ -1,11 +1,11 @@
 -- Laws of bits and of the numbers that they spell.
-use mathlib.Core.Path.{_≡_, refl, sym, ap, _∙_}
+use mathlib.Core.Path.{_≡_, refl, sym, ap}
 use mathlib.Core.List.{List, [], _∷_, _++_}
 use Prim.Native.Nat.{ℕ, zero, suc, _+_, _-_, _*_, _/_, _%_, _^_, _≤_, _<_}
-use native.Mathlib.Nat.{add-assoc, add-suc, suc-add, add-zero, mod-lt, mod-eq-of-lt}
+use native.Mathlib.Nat.{add-suc, suc-add, add-zero, mod-lt}
 use native.Mathlib.Numerals.{add-one}
 use native.Mathlib.Omega.{arith}
-use lib.ListN.{length, length-append, getD}
+use lib.ListN.{length, getD}
 use lib.Arith.{digits-lt}
 use lib.Pow.{split, high, low, pow-pos}
 use Rattle.x691.specs.Bits.{bitOf, uint, bitsOf, Spells}
@@ -69,7 +69,7 @@ unfolding uint
 uint-one b at = omega arith
 
 -- one bit more
-more : (b : ℕ → ℕ) (at n : ℕ) → uint b at (suc n) ≡ uint b at n * 2 + b (at + n)
+pub more : (b : ℕ → ℕ) (at n : ℕ) → uint b at (suc n) ≡ uint b at n * 2 + b (at + n)
 unfolding uint
 more b at zero = rw (add-zero at) (omega arith)
 more b at (suc n) = rw (add-suc at n, ← (suc-add at n)) (let z : 2 ^ suc n ≡ 2 ^ n * 2 = omega arith in omega (arith, more b (suc at) n, ap (λ (x : ℕ). b at * x) z))

@@ -1,0 +1,11 @@
+pub mod Keeps
+pub mod States
+pub mod Answers
+pub mod Back
+pub mod Over
+pub mod Fronts
+pub mod Elements
+pub mod Computed
+pub mod Tables
+pub mod Accepted
+pub mod Shown
