@@ -33,7 +33,7 @@ use Rattle.optional_parts.specs.Parts.{Part, Optional, Fields, chosen}
 use Rattle.route_ends.specs.Ends.{departureFields, arrivalFields}
 use Rattle.clearances.specs.Clearance.{routeFields, clearanceFields, Rest}
 use Rattle.clearances.specs.Attempts.{attempt}
-use Rattle.optional_parts.proofs.ThenLaws.{joined, Shows, chosen-fields, chosen-joined}
+use Rattle.optional_parts.proofs.FieldLaws.{joined, Shows, chosen-fields, chosen-joined}
 use Rattle.optional_parts.proofs.PartLaws.{part-runs, part-none, part-still, part-told, part-set, part-clear, part-within, part-same, part-then}
 use Rattle.clearances.proofs.LateLaws.{Wants, enough, unreads, wants, loose-none, loose-some}
 

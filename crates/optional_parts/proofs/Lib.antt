@@ -1,2 +1,2 @@
-pub mod ThenLaws
+pub mod FieldLaws
 pub mod PartLaws

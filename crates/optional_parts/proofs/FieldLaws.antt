@@ -10,8 +10,6 @@ use Rattle.atn.proofs.Steps.{then-nil}
 use Rattle.atn.proofs.Then.{then-then, then-same}
 use Rattle.optional_parts.specs.Parts.{chosen}
 
----------------------------------------------------------------- fields
-
 -- the fields of one sequence, and then those of another
 abbrev pub joined : Flds → Flds → Flds
 joined end gs = gs
