@@ -8,12 +8,13 @@ use Rattle.atn.specs.Messages.{aircraftPdus, groundPdus, cmAircraft, cmGround, 
 use Rattle.element_kinds.specs.Kinds.{kindBy}
 use Rattle.element_kinds.specs.Agreed.{isLast}
 use Rattle.agreement_promises.specs.Kept.{byteKind, fits}
-use Rattle.agreement_promises.proofs.States.{alike, inside, among, add, _∪_, each, allAmong, step, told, fit, allFit, known, allKnown}
+use Rattle.grammar_promises.proofs.Sets.{among, add, union, each, allAmong}
+use Rattle.agreement_promises.proofs.States.{alike, inside, step, told, fit, allFit, known, allKnown}
 use Rattle.agreement_promises.proofs.Back.{closure, items, texts, letters, back, backFields, backAlts, argumentsFit, elementsFit, backElement, allKept}
 
 -- to unfold this is to unfold all that it is made by
 unfoldable pub keptWell : Fmt → Bool
-unfolding kindBy isLast byteKind fits alike inside among add _∪_ each allAmong step told fit allFit known allKnown closure items texts letters back backFields backAlts argumentsFit elementsFit backElement allKept
+unfolding kindBy isLast byteKind fits alike inside among add union each allAmong step told fit allFit known allKnown closure items texts letters back backFields backAlts argumentsFit elementsFit backElement allKept
 keptWell f = allKept f
 
 pub kept-well : (f : Fmt) → keptWell f ≡ true → allKept f ≡ true

@@ -1,8 +1,8 @@
 -- What is known of the records from some place on, as far as it decides what may stand before them.
 use mathlib.Core.Path.{_≡_, refl, sym, ap, _∙_}
-use mathlib.Core.Bool.{Bool, true, false, cond, not, _&&_, _||_}
+use mathlib.Core.Bool.{Bool, true, false, cond, not, _&&_}
 use mathlib.Core.List.{List, [], _∷_}
-use mathlib.Core.Logic.{_⊎_, inl, inr}
+use mathlib.Core.Logic.{inl, inr}
 use Prim.Native.Nat.{ℕ}
 use native.Mathlib.Omega.{arith}
 use lib.Dec.{eqb}
@@ -13,6 +13,7 @@ use Rattle.atn.proofs.Inverse.{both}
 use Rattle.screen_records.specs.Fields.{tag}
 use Rattle.element_kinds.specs.Kinds.{kindBy, kindOf}
 use Rattle.element_kinds.specs.Agreed.{isLast}
+use Rattle.grammar_promises.proofs.Sets as sets
 use Rattle.agreement_promises.specs.Kept.{ended, fits, keepsOne, keeps}
 
 -- nothing; or each index has its kind, and these are the kind of argument that the records begin with, whether a speed type is the first, and whether there is neither an element nor a clearance
@@ -27,8 +28,7 @@ Covers K (seen k s e) R = (keeps K R ≡ true) × (kindOf R ≡ k) × (eqb (tag 
 
 -- one of these
 abbrev pub Covered : (ℕ → ℕ) → List State → List Rec → Type 0
-Covered K [] R = ⊥
-Covered K (x ∷ A) R = Covers K x R ⊎ Covered K A R
+Covered K A R = sets.Some (λ x. Covers K x R) A
 
 abbrev pub anything : List State
 anything = lost ∷ []
@@ -44,25 +44,12 @@ inside x lost = true
 inside lost (seen k s e) = false
 inside (seen k s e) (seen k′ s′ e′) = eqb k k′ && (alike s s′ && alike e e′)
 
-unfoldable pub among : State → List State → Bool
-among x [] = false
-among x (y ∷ A) = inside x y || among x A
-
-unfoldable pub add : State → List State → List State
-add x A = cond (among x A) A (x ∷ A)
-
 infixr 30 _∪_
-unfoldable pub _∪_ : List State → List State → List State
-_∪_ [] B = B
-_∪_ (x ∷ A) B = add x (A ∪ B)
+abbrev pub _∪_ : List State → List State → List State
+_∪_ A B = sets.union inside A B
 
-unfoldable pub each : (State → State) → List State → List State
-each h [] = []
-each h (x ∷ A) = add (h x) (each h A)
-
-unfoldable pub allAmong : List State → List State → Bool
-allAmong [] B = true
-allAmong (x ∷ A) B = among x B && allAmong A B
+abbrev pub allAmong : List State → List State → Bool
+allAmong A B = sets.allAmong inside A B
 
 alike-same : (a b : Bool) → alike a b ≡ true → a ≡ b
 unfolding alike
@@ -80,44 +67,14 @@ module _ (K : ℕ → ℕ) (R : List Rec) where
       let h2 = both _ _ (h1 .1) in
       (g .0, g .1 ∙ eqb-true k k′ (h1 .0), g .2 ∙ alike-same s s′ (h2 .0), g .3 ∙ alike-same e e′ (h2 .1))
 
-  among-covered : (x : State) (A : List State) → among x A ≡ true → Covers K x R → Covered K A R
-  unfolding among
-  among-covered x [] h g = let z : _≡_ {A = ℕ} 0 1 = cc in absurd (omega arith)
-  among-covered x (y ∷ A) h g = go (inside x y) refl h (λ q. among-covered x A q g)
-    where
-      go : (t : Bool) → inside x y ≡ t → t || among x A ≡ true → (among x A ≡ true → Covered K A R) → Covered K (y ∷ A) R
-      go true q p f = inl (inside-covers x y q g)
-      go false q p f = inr (f p)
-
-  -- by a test
-  pub cond-covered : (t : Bool) (A B : List State) → (t ≡ true → Covered K A R) → (t ≡ false → Covered K B R) → Covered K (cond t A B) R
-  cond-covered true A B f g = f refl
-  cond-covered false A B f g = g refl
-
-  add-new : (x : State) (A : List State) → Covers K x R → Covered K (add x A) R
-  unfolding add
-  add-new x A g = cond-covered (among x A) A (x ∷ A) (λ q. among-covered x A q g) (λ _. inl g)
-
-  add-old : (x : State) (A : List State) → Covered K A R → Covered K (add x A) R
-  unfolding add
-  add-old x A g = cond-covered (among x A) A (x ∷ A) (λ _. g) (λ _. inr g)
-
   pub left-of : (A B : List State) → Covered K A R → Covered K (A ∪ B) R
-  unfolding _∪_
-  left-of [] B g = absurd g
-  left-of (x ∷ A) B (inl g) = add-new x (A ∪ B) g
-  left-of (x ∷ A) B (inr g) = add-old x (A ∪ B) (left-of A B g)
+  left-of A B g = sets.left-of inside inside-covers A B g
 
   pub right-of : (A B : List State) → Covered K B R → Covered K (A ∪ B) R
-  unfolding _∪_
-  right-of [] B g = g
-  right-of (x ∷ A) B g = add-old x (A ∪ B) (right-of A B g)
+  right-of A B g = sets.right-of inside inside-covers A B g
 
   pub all-among : (A B : List State) → allAmong A B ≡ true → Covered K A R → Covered K B R
-  unfolding allAmong
-  all-among [] B h g = absurd g
-  all-among (x ∷ A) B h (inl g) = among-covered x B (both (among x B) (allAmong A B) h .0) g
-  all-among (x ∷ A) B h (inr g) = all-among A B (both (among x B) (allAmong A B) h .1) g
+  all-among A B h g = sets.all-among inside inside-covers A B h g
 
 ---------------------------------------------------------------- a record in front
 
@@ -126,7 +83,7 @@ step t lost = lost
 step t (seen k s e) = cond (eqb t tags.element-index) lost (seen (kindBy t (cond s tags.speed-type 0)) (eqb t tags.speed-type) (isLast t && e))
 
 unfoldable pub told : ℕ → List State → List State
-told t A = each (λ x. step t x) A
+told t A = sets.each inside (λ x. step t x) A
 
 -- of the second tag it only matters whether it is a speed type
 kind-second : (t u : ℕ) → kindBy t u ≡ kindBy t (cond (eqb u tags.speed-type) tags.speed-type 0)
@@ -148,10 +105,8 @@ module _ (K : ℕ → ℕ) (t m v n q : ℕ) (R : List Rec) where
       go false p = (rw p (g .0), kind-second t (tag R 0) ∙ ap (λ (z : Bool). kindBy t (cond z tags.speed-type 0)) (g .2), refl, ap (λ (z : Bool). isLast t && z) (g .3))
 
   pub told-covered : (A : List State) → Covered K A R → Covered K (told t A) (rec t m v n q ∷ R)
-  unfolding told each
-  told-covered [] g = absurd g
-  told-covered (x ∷ A) (inl g) = add-new K (rec t m v n q ∷ R) (step t x) (told t A) (step-covers x g)
-  told-covered (x ∷ A) (inr g) = add-old K (rec t m v n q ∷ R) (step t x) (told t A) (told-covered A g)
+  unfolding told
+  told-covered A g = sets.each-some inside (inside-covers K (rec t m v n q ∷ R)) (λ x. step t x) step-covers A g
 
 ---------------------------------------------------------------- an index in front
 

@@ -1,5 +1,6 @@
 pub mod Agreement
 pub mod WorkedLists
+pub mod Sets
 pub mod States
 pub mod Verdicts
 pub mod Steps

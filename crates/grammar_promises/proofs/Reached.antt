@@ -10,7 +10,8 @@ use Rattle.atn.specs.Format.{Fmt, null}
 use Rattle.atn.specs.Messages.{arguments, argument, noReader, aircraftPdus, groundPdus, cmAircraft, cmGround, acse}
 use Rattle.record_grammar.specs.Rows.{orKept}
 use Rattle.record_grammar.specs.Table.{table}
-use Rattle.grammar_promises.proofs.States.{agree, tells, State, lost, stands, nil, inside, among, add, _∪_, each, allAmong}
+use Rattle.grammar_promises.proofs.Sets.{among, add, union, each, allAmong}
+use Rattle.grammar_promises.proofs.States.{agree, tells, State, lost, stands, nil, inside}
 use Rattle.grammar_promises.proofs.Verdicts.{Scope, value, also, surely, ranged, numbers, texts, spans, notes, counts, kinds, keptVal, elementSure, verdict}
 use Rattle.grammar_promises.proofs.Steps.{rowFrom, rowsOf, rows, blocksOf, blocks, row, choose, meant, seek, toldVal, behind, land, step}
 use Rattle.grammar_promises.proofs.Texts.{textBehind, textStep}
@@ -47,7 +48,7 @@ ends X = allEnd (X .next) && allEnd (X .given)
 
 -- computed: to unfold this is to unfold all that the exits are made by
 unfoldable pub endsWell : Bool → Fmt → Bool
-unfolding rowFrom rowsOf rows blocksOf blocks orKept table agree tells inside among add _∪_ each allAmong also surely ranged numbers texts spans notes counts kinds keptVal elementSure verdict row choose meant seek toldVal behind land step textBehind textStep channelStep either andThen counter forget begun again changed exactly stay anyNumber numberStep lettersStep spanStep failing leaf fallible refused listItems chosen goes goesFields goesAlts atEnd allEnd argumentsGo elementGo reached extent width widthIn ends
+unfolding rowFrom rowsOf rows blocksOf blocks orKept table agree tells inside among add union each allAmong also surely ranged numbers texts spans notes counts kinds keptVal elementSure verdict row choose meant seek toldVal behind land step textBehind textStep channelStep either andThen counter forget begun again changed exactly stay anyNumber numberStep lettersStep spanStep failing leaf fallible refused listItems chosen goes goesFields goesAlts atEnd allEnd argumentsGo elementGo reached extent width widthIn ends
 endsWell track f = ends (reached track f)
 
 pub ends-well : (track : Bool) (f : Fmt) → endsWell track f ≡ true → ends (reached track f) ≡ true

@@ -1,14 +1,14 @@
 -- Where a walk by rows may stand, as far as it decides what comes next: a row, the two rows kept, and what its counts are known to be.
-use mathlib.Core.Path.{_≡_, refl, ap, _∙_}
-use mathlib.Core.Bool.{Bool, true, false, cond, _&&_, _||_}
-use mathlib.Core.List.{List, [], _∷_}
-use mathlib.Core.Logic.{_⊎_, inl, inr}
+use mathlib.Core.Path.{_≡_, ap, _∙_}
+use mathlib.Core.Bool.{Bool, true, false, cond, _&&_}
+use mathlib.Core.List.{List}
 use Prim.Native.Nat.{ℕ, _+_}
 use native.Mathlib.Omega.{arith}
 use lib.Dec.{eqb}
 use borrow.Author.Tests.{eqb-true}
 use Rattle.atn.proofs.Inverse.{both}
 use Rattle.record_grammar.specs.declared.Walk.{Walk}
+use Rattle.grammar_promises.proofs.Sets as sets
 
 ---------------------------------------------------------------- counts
 
@@ -83,8 +83,7 @@ Covers ρ (stands a b l e c p) s = (s .at ≡ a) × (s .back ≡ b) × (s .last 
 
 -- one of these
 abbrev pub Covered : (ℕ → ℕ) → List State → Walk → Type 0
-Covered ρ [] s = ⊥
-Covered ρ (x ∷ A) s = Covers ρ x s ⊎ Covered ρ A s
+Covered ρ A s = sets.Some (λ x. Covers ρ x s) A
 
 -- where the first stands the second does
 unfoldable pub inside : State → State → Bool
@@ -92,28 +91,16 @@ inside x lost = true
 inside lost (stands a b l e c p) = false
 inside (stands a b l e c p) (stands a′ b′ l′ e′ c′ p′) = eqb a a′ && (eqb b b′ && (eqb l l′ && (tells e e′ && (tells c c′ && tells p p′))))
 
--- where the state stands one of these does
-unfoldable pub among : State → List State → Bool
-among x [] = false
-among x (y ∷ A) = inside x y || among x A
-
--- a state more, if it is not among them
-unfoldable pub add : State → List State → List State
-add x A = cond (among x A) A (x ∷ A)
-
 infixr 30 _∪_
-unfoldable pub _∪_ : List State → List State → List State
-_∪_ [] B = B
-_∪_ (x ∷ A) B = add x (A ∪ B)
+abbrev pub _∪_ : List State → List State → List State
+_∪_ A B = sets.union inside A B
 
 -- each state changed
-unfoldable pub each : (State → State) → List State → List State
-each h [] = []
-each h (x ∷ A) = add (h x) (each h A)
+abbrev pub each : (State → State) → List State → List State
+each h A = sets.each inside h A
 
-unfoldable pub allAmong : List State → List State → Bool
-allAmong [] B = true
-allAmong (x ∷ A) B = among x B && allAmong A B
+abbrev pub allAmong : List State → List State → Bool
+allAmong A B = sets.allAmong inside A B
 
 module _ (ρ : ℕ → ℕ) (s : Walk) where
   inside-covers : (x y : State) → inside x y ≡ true → Covers ρ x s → Covers ρ y s
@@ -128,48 +115,19 @@ module _ (ρ : ℕ → ℕ) (s : Walk) where
       let h5 = both _ _ (h4 .1) in
       (g .0 ∙ eqb-true a a′ (h1 .0), g .1 ∙ eqb-true b b′ (h2 .0), g .2 ∙ eqb-true l l′ (h3 .0), tells-means ρ e e′ _ (h4 .0) (g .3), tells-means ρ c c′ _ (h5 .0) (g .4), tells-means ρ p p′ _ (h5 .1) (g .5), g .6)
 
-  among-covered : (x : State) (A : List State) → among x A ≡ true → Covers ρ x s → Covered ρ A s
-  unfolding among
-  among-covered x [] h g = let z : _≡_ {A = ℕ} 0 1 = cc in absurd (omega arith)
-  among-covered x (y ∷ A) h g = go (inside x y) refl h (λ q. among-covered x A q g)
-    where
-      go : (t : Bool) → inside x y ≡ t → t || among x A ≡ true → (among x A ≡ true → Covered ρ A s) → Covered ρ (y ∷ A) s
-      go true q p f = inl (inside-covers x y q g)
-      go false q p f = inr (f p)
-
   -- by a test
   pub cond-covered : (t : Bool) (A B : List State) → (t ≡ true → Covered ρ A s) → (t ≡ false → Covered ρ B s) → Covered ρ (cond t A B) s
-  cond-covered true A B f g = f refl
-  cond-covered false A B f g = g refl
-
-  add-new : (x : State) (A : List State) → Covers ρ x s → Covered ρ (add x A) s
-  unfolding add
-  add-new x A g = cond-covered (among x A) A (x ∷ A) (λ q. among-covered x A q g) (λ _. inl g)
-
-  add-old : (x : State) (A : List State) → Covered ρ A s → Covered ρ (add x A) s
-  unfolding add
-  add-old x A g = cond-covered (among x A) A (x ∷ A) (λ _. g) (λ _. inr g)
+  cond-covered t A B f g = sets.cond-some (λ x. Covers ρ x s) t A B f g
 
   pub left-of : (A B : List State) → Covered ρ A s → Covered ρ (A ∪ B) s
-  unfolding _∪_
-  left-of [] B g = absurd g
-  left-of (x ∷ A) B (inl g) = add-new x (A ∪ B) g
-  left-of (x ∷ A) B (inr g) = add-old x (A ∪ B) (left-of A B g)
+  left-of A B g = sets.left-of inside inside-covers A B g
 
   pub right-of : (A B : List State) → Covered ρ B s → Covered ρ (A ∪ B) s
-  unfolding _∪_
-  right-of [] B g = g
-  right-of (x ∷ A) B g = add-old x (A ∪ B) (right-of A B g)
+  right-of A B g = sets.right-of inside inside-covers A B g
 
   pub all-among : (A B : List State) → allAmong A B ≡ true → Covered ρ A s → Covered ρ B s
-  unfolding allAmong
-  all-among [] B h g = absurd g
-  all-among (x ∷ A) B h (inl g) = among-covered x B (both (among x B) (allAmong A B) h .0) g
-  all-among (x ∷ A) B h (inr g) = all-among A B (both (among x B) (allAmong A B) h .1) g
+  all-among A B h g = sets.all-among inside inside-covers A B h g
 
 -- a change of state that follows the walk
 pub each-covered : (ρ ρ′ : ℕ → ℕ) (s s′ : Walk) (h : State → State) → ((x : State) → Covers ρ x s → Covers ρ′ (h x) s′) → (A : List State) → Covered ρ A s → Covered ρ′ (each h A) s′
-unfolding each
-each-covered ρ ρ′ s s′ h f [] g = absurd g
-each-covered ρ ρ′ s s′ h f (x ∷ A) (inl g) = add-new ρ′ s′ (h x) (each h A) (f x g)
-each-covered ρ ρ′ s s′ h f (x ∷ A) (inr g) = add-old ρ′ s′ (h x) (each h A) (each-covered ρ ρ′ s s′ h f A g)
+each-covered ρ ρ′ s s′ h f A g = sets.each-some inside (inside-covers ρ′ s′) h f A g

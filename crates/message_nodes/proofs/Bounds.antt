@@ -1,11 +1,11 @@
 -- How many bits the messages have at most, and what their inner strings hold; how long the table is.
 use mathlib.Core.Path.{_≡_, refl, ap}
-use mathlib.Core.Bool.{Bool, true, _&&_}
+use mathlib.Core.Bool.{true}
 use mathlib.Core.Option.{some}
 use mathlib.Core.List.{List, [], _∷_}
 use Prim.Native.Nat.{ℕ, zero, suc, _+_, _*_, _≤_}
 use native.Mathlib.Omega.{arith}
-use lib.ListN.{length, getD}
+use lib.ListN.{length}
 use lib.Dec.{leb}
 use borrow.Author.Tests.{leb-true}
 use Rattle.x691.specs.Types.{extent}
@@ -15,7 +15,7 @@ use Rattle.atn.specs.Format.{Fmt, alternativesOf}
 use Rattle.atn.specs.Reading.{flags}
 use Rattle.atn.specs.Messages.{noReader, arguments, argumentOf, elements, constrainedData, messageData, atcMessage, aircraftPdus, groundPdus, acse}
 use Rattle.atn.specs.Entries.{pdus, cmOf}
-use Rattle.atn.proofs.Inverse.{both}
+use Rattle.atn.proofs.Elements.{every, every-get}
 use Rattle.record_lists.specs.Kinds.{kindOf}
 use Rattle.record_lists.specs.Most.{most, mostAlts}
 use Rattle.record_lists.proofs.Messages.{some-is, nothing}
@@ -25,24 +25,14 @@ pub few-nodes : length table ≤ 6000000
 unfolding table
 few-nodes = leb-true (length table) 6000000 refl
 
-eachWithin : ℕ → List Fmt → Bool
-eachWithin n [] = true
-eachWithin n (f ∷ fs) = leb (most f) n && eachWithin n fs
-
-within-at : (n : ℕ) (fs : List Fmt) (k : ℕ) → eachWithin n fs ≡ true → most (getD fs k noReader) ≤ n
-unfolding eachWithin most
-within-at n [] k h = omega arith
-within-at n (f ∷ fs) zero h = leb-true (most f) n (both (leb (most f) n) (eachWithin n fs) h .0)
-within-at n (f ∷ fs) (suc k) h = within-at n fs k (both (leb (most f) n) (eachWithin n fs) h .1)
-
-arguments-within : eachWithin 200 arguments ≡ true
-unfolding eachWithin most width widthIn extent highest count flags
+arguments-within : every (λ f. leb (most f) 200) arguments ≡ true
+unfolding every most width widthIn extent highest count flags
 arguments-within = refl
 
 argument-most : (k : ℕ) → most (argumentOf k) ≤ 200
 unfolding argumentOf most
 argument-most zero = omega arith
-argument-most (suc k) = within-at 200 arguments k arguments-within
+argument-most (suc k) = leb-true _ 200 (every-get (λ f. leb (most f) 200) arguments noReader k arguments-within refl)
 
 elements-most : (t : List ℕ) → mostAlts (elements t) ≤ 200
 unfolding elements most

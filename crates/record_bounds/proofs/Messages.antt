@@ -1,32 +1,19 @@
 -- How many records the messages have at most, whatever tables are lent.
-use mathlib.Core.Path.{_≡_, refl}
-use mathlib.Core.Bool.{Bool, true, _&&_}
+use mathlib.Core.Path.{refl}
 use mathlib.Core.List.{List, [], _∷_}
 use Prim.Native.Nat.{ℕ, zero, suc, _+_, _*_, _≤_, max}
 use native.Mathlib.Omega.{arith}
-use lib.ListN.{getD}
 use lib.Dec.{leb}
 use borrow.Author.Tests.{leb-true}
-use Rattle.atn.specs.Format.{Fmt}
 use Rattle.atn.specs.Messages.{noReader, arguments, argumentOf, elements, constrainedData, messageData, atcMessage, protectedMessage, forward, cmGround, cmAircraft, acse}
 use Rattle.atn.specs.Entries.{pdus}
-use Rattle.atn.proofs.Inverse.{both}
+use Rattle.atn.proofs.Elements.{every, every-get}
 use Rattle.record_bounds.specs.Most.{most, mostAlts}
 
-eachWithin : ℕ → List Fmt → Bool
-eachWithin n [] = true
-eachWithin n (f ∷ fs) = leb (most f) n && eachWithin n fs
-
-within-at : (n : ℕ) (fs : List Fmt) (k : ℕ) → eachWithin n fs ≡ true → most (getD fs k noReader) ≤ n
-unfolding eachWithin most
-within-at n [] k h = omega arith
-within-at n (f ∷ fs) zero h = leb-true (most f) n (both (leb (most f) n) (eachWithin n fs) h .0)
-within-at n (f ∷ fs) (suc k) h = within-at n fs k (both (leb (most f) n) (eachWithin n fs) h .1)
-
 argument-most : (k : ℕ) → most (argumentOf k) ≤ 14
-unfolding argumentOf most eachWithin
+unfolding argumentOf most every
 argument-most zero = omega arith
-argument-most (suc k) = within-at 14 arguments k refl
+argument-most (suc k) = leb-true _ 14 (every-get (λ f. leb (most f) 14) arguments noReader k refl refl)
 
 elements-most : (t : List ℕ) → mostAlts (elements t) ≤ 14
 unfolding elements most
