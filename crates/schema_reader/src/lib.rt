@@ -1,15 +1,15 @@
 // Reading by a lent table of nodes: `parse_by_table`. The reading decides before its records are written: a first one tells into a spare word, in which none fits, and counts them.
-ghost use mathlib.Core.Bool.{false};
 ghost use mathlib.Core.Path.{_≡_};
 ghost use Prim.Native.Nat.{_*_, _≤_, min};
 ghost use lib.ListN.{length};
 ghost use Rattle.atn.specs.Entries.{readFrame, settle};
-ghost use Rattle.answers.specs.declared.Answer.the-variants.{Accepted, Refused};
 ghost use Rattle.answers.specs.Says.{Says};
 ghost use Rattle.schema_tables.specs.Entry.{top, capped, parse-by-table};
 ghost use Rattle.schema_tables.specs.Nodes.{meaning};
 ghost use Rattle.schema_walk.specs.Ready.{Ready};
 use answers::Answer;
+use answers::accepted;
+use answers::refused;
 use cursor::place::Cursor;
 use schema_leaves::Step;
 use schema_nodes::refusal::refusal;
@@ -72,26 +72,4 @@ fn words_for(count: usize) -> usize
         return count * WORDS;
     }
     usize::MAX
-}
-
-fn accepted(reach: usize, marks: u64, count: usize) -> Answer
-    ensures { λ r. ⌜ r ≡ Accepted false reach marks count ⌝ }
-{
-    Answer::Accepted {
-        cut: false,
-        reach: reach,
-        marks: marks,
-        count: count,
-    }
-}
-
-fn refused(number: u64, reach: usize, need: usize, lacked: usize) -> Answer
-    ensures { λ r. ⌜ r ≡ Refused number reach need lacked ⌝ }
-{
-    Answer::Refused {
-        number: number,
-        reach: reach,
-        need: need,
-        lacked: lacked,
-    }
 }

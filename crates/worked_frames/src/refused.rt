@@ -1,21 +1,21 @@
 // The longest frame; what is refused before reading, and for want of room.
-use super::line::print;
 use acse::parse_acse_apdu;
 use cm::parse_cm;
+use listing::print_case;
 
 // 65,536 bytes, of which the first is printed.
 pub fn longest() {
     let frame = [0u8; 65536];
     let mut words = [0u64; 160];
     let ground = parse_cm(&frame, 1, &mut words);
-    print(
+    print_case(
         b"cm 1, 65536 bytes that begin with",
         &frame[..1],
         &words,
         ground,
     );
     let association = parse_acse_apdu(&frame, &mut words);
-    print(
+    print_case(
         b"acse, 65536 bytes that begin with",
         &frame[..1],
         &words,
@@ -28,21 +28,21 @@ pub fn too_long() {
     let frame = [0u8; 65537];
     let mut words = [0u64; 160];
     let ground = parse_cm(&frame, 1, &mut words);
-    print(
+    print_case(
         b"cm 1, 65537 bytes that begin with",
         &frame[..1],
         &words,
         ground,
     );
     let logon = parse_cm(&frame, 0, &mut words);
-    print(
+    print_case(
         b"cm 0, 65537 bytes that begin with",
         &frame[..1],
         &words,
         logon,
     );
     let association = parse_acse_apdu(&frame, &mut words);
-    print(
+    print_case(
         b"acse, 65537 bytes that begin with",
         &frame[..1],
         &words,
@@ -59,11 +59,11 @@ pub fn no_room() {
 fn acse_in_four(frame: &[u8]) {
     let mut words = [0u64; 160];
     let answer = parse_acse_apdu(frame, &mut words[..4]);
-    print(b"acse, four words,", frame, &words, answer);
+    print_case(b"acse, four words,", frame, &words, answer);
 }
 
 fn cm_logon_in_four(frame: &[u8]) {
     let mut words = [0u64; 160];
     let answer = parse_cm(frame, 0, &mut words[..4]);
-    print(b"cm 0, four words,", frame, &words, answer);
+    print_case(b"cm 0, four words,", frame, &words, answer);
 }

@@ -1,14 +1,14 @@
 // The frames.
-use super::line::print;
 use super::tables::PROCEDURE;
 use super::tables::SHOP;
+use listing::print_case;
 use schema_reader::parse_by_table;
 
 fn by_shop(frame: &[u8]) {
     let nodes = SHOP;
     let mut words = [0u64; 160];
     let answer = parse_by_table(frame, &nodes, &mut words);
-    print(b"shop", frame, &words, answer);
+    print_case(b"shop", frame, &words, answer);
 }
 
 pub fn of_the_shop() {
@@ -36,10 +36,10 @@ pub fn of_the_procedure() {
     let mut words = [0u64; 160];
     let frame = [0x40u8, 0x82];
     let answer = parse_by_table(&frame, &nodes, &mut words);
-    print(b"procedure", &frame, &words, answer);
+    print_case(b"procedure", &frame, &words, answer);
     let unnamed = [0x60u8];
     let refused = parse_by_table(&unnamed, &nodes, &mut words);
-    print(b"procedure", &unnamed, &words, refused);
+    print_case(b"procedure", &unnamed, &words, refused);
 }
 
 // Nineteen words are lent for four records, and twenty.
@@ -52,12 +52,12 @@ fn in_nineteen(frame: &[u8]) {
     let nodes = SHOP;
     let mut words = [0u64; 160];
     let answer = parse_by_table(frame, &nodes, &mut words[..19]);
-    print(b"shop, nineteen words,", frame, &words, answer);
+    print_case(b"shop, nineteen words,", frame, &words, answer);
 }
 
 fn in_twenty(frame: &[u8]) {
     let nodes = SHOP;
     let mut words = [0u64; 160];
     let answer = parse_by_table(frame, &nodes, &mut words[..20]);
-    print(b"shop, twenty words,", frame, &words, answer);
+    print_case(b"shop, twenty words,", frame, &words, answer);
 }

@@ -1,13 +1,13 @@
 // The tables that are refused, before the frame is read.
-use super::line::print;
 use super::tables::SEVENTEEN;
 use super::tables::SIXTEEN;
+use listing::print_case;
 use schema_reader::parse_by_table;
 
 fn try_table(name: &[u8], nodes: &[u64]) {
     let mut words = [0u64; 160];
     let answer = parse_by_table(&[], nodes, &mut words);
-    print(name, &[], &words, answer);
+    print_case(name, &[], &words, answer);
 }
 
 pub fn kinds() {
@@ -54,7 +54,7 @@ pub fn in_order() {
     let frame = [0u8; 65537];
     let mut words = [0u64; 160];
     let answer = parse_by_table(&frame, &[13, 0, 0, 0], &mut words);
-    print(
+    print_case(
         b"kind 13, 65537 bytes that begin with",
         &frame[..1],
         &words,

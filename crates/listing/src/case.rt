@@ -1,18 +1,20 @@
-// A case's line: the name of its table, the frame and the answer.
+// A case's line: its name, the frame and the answer.
+use super::answer::put_answer;
+use super::new;
+use super::put;
+use super::put_hex;
+use super::put_text;
+use super::write;
 use answers::Answer;
-use listing::put;
-use listing::put_answer;
-use listing::put_hex;
-use listing::put_text;
 
-pub fn print(table: &[u8], frame: &[u8], words: &[u64; 160], answer: Answer) {
-    let mut line = listing::new();
-    let mut n = put_text(&mut line, 0, table);
+pub fn print_case(name: &[u8], frame: &[u8], words: &[u64; 160], answer: Answer) {
+    let mut line = new();
+    let mut n = put_text(&mut line, 0, name);
     n = put(&mut line, n, b' ');
     n = put_octets(&mut line, n, frame);
     n = put_text(&mut line, n, b": ");
     n = put_answer(&mut line, n, words, answer);
-    listing::write(&mut line, n);
+    write(&mut line, n);
 }
 
 // The empty frame is `-`.

@@ -1,9 +1,9 @@
--- `worked_tables::line::put_octets` is safe and ends. The measure is what is left of the frame.
+-- `listing::case::put_octets` is safe and ends. The measure is what is left of the frame.
 use Prim.Native.Nat.{_-_}
 use lib.ListN.{length}
 use borrow.Author.Needs.{needs}
-use Rattle.worked_tables.proofs.line.put_octets.Statement.{statement}
-use Rattle.worked_tables.proofs.line.put_octets.Tie as tie
+use Rattle.listing.proofs.case.put_octets.Statement.{statement}
+use Rattle.listing.proofs.case.put_octets.Tie as tie
 
 abbrev Inv-loop : tie.InvT-loop
 Inv-loop line₀ n frame m₀ i₀ line m i = Unit
