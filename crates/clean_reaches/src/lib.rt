@@ -11,11 +11,11 @@ ghost use Rattle.message_runs.specs.Runs.{formatOf, cleanReach};
 ghost use Rattle.clean_reaches.specs.Reaches.{reachOf};
 use acse_apdus::Apdu;
 use acse_apdus::read_apdu;
-use cm_parts::parts::Step;
 use cm_pdus::pdu;
 use cpdlc_frames::try_frame;
 use cursor::place::Cursor;
 use message_runs::Kind;
+use runs::At;
 
 // The bits of the clean message, or that there is none.
 pub enum Reach {
@@ -56,7 +56,7 @@ fn cm_reach(ground: bool, frame: &[u8]) -> Reach
         why: 0,
         marks: 0,
     };
-    let first = Step { c: start, n: 0 };
+    let first = At { n: 0, c: start };
     let mut spare = [0u64; 1];
     let tried = pdu(&mut spare, first, frame, ground);
     let c = tried.c;

@@ -1,17 +1,17 @@
 // Context Management: `parse_cm`. A message is told as it is read, into spare words first, so that a refusal leaves the lent ones and the number of records is known before any is written.
-ghost use mathlib.Core.Bool.{false};
 ghost use mathlib.Core.Path.{_≡_};
 ghost use Prim.Native.Nat.{_≤_};
 ghost use lib.ListN.{length};
 ghost use Rattle.atn.specs.Entries.{parse-cm, readFrame, settle};
-ghost use Rattle.answers.specs.declared.Answer.the-variants.{Accepted, Refused};
 ghost use Rattle.answers.specs.Says.{Says};
 ghost use Rattle.cm_pdus.specs.Pdus.{pduOf};
 use answers::Answer;
-use cm_parts::parts::Step;
+use answers::accepted;
+use answers::refused;
 use cm_pdus::pdu;
 use cursor::place::Cursor;
 use records::space::words_for;
+use runs::At;
 use spare_words::CM_SPARE;
 use spare_words::copy;
 
@@ -42,7 +42,7 @@ fn answer(frame: &[u8], words: &mut [u64], ground: bool) -> Answer
         why: 0,
         marks: 0,
     };
-    let first = Step { c: start, n: 0 };
+    let first = At { n: 0, c: start };
     let mut spare = [0u64; CM_SPARE];
     let tried = pdu(&mut spare, first, frame, ground);
     let c = tried.c;
@@ -60,26 +60,4 @@ fn answer(frame: &[u8], words: &mut [u64], ground: bool) -> Answer
     // no more words than the records need, so that those behind them stay
     pdu(&mut words[..need], first, frame, ground);
     accepted(c.at, c.marks, tried.n)
-}
-
-fn accepted(reach: usize, marks: u64, count: usize) -> Answer
-    ensures { λ r. ⌜ r ≡ Accepted false reach marks count ⌝ }
-{
-    Answer::Accepted {
-        cut: false,
-        reach: reach,
-        marks: marks,
-        count: count,
-    }
-}
-
-fn refused(number: u64, reach: usize, need: usize, lacked: usize) -> Answer
-    ensures { λ r. ⌜ r ≡ Refused number reach need lacked ⌝ }
-{
-    Answer::Refused {
-        number: number,
-        reach: reach,
-        need: need,
-        lacked: lacked,
-    }
 }

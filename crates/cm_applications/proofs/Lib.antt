@@ -1,2 +1,1 @@
-pub mod TimesLaws
 pub mod ListLaws

@@ -2,11 +2,11 @@
 use mathlib.Core.Path.{_≡_, refl}
 use mathlib.Core.Bool.{Bool, true, false}
 use mathlib.Core.List.{List, [], _∷_}
-use Prim.Native.Nat.{ℕ, _+_, _*_}
+use Prim.Native.Nat.{ℕ, _+_, _*_, _≤_}
 use native.Mathlib.Omega.{arith}
 use Rattle.x691.specs.Bits.{bitOf}
-use Rattle.atn.specs.Format.{Fmt, lack, num, placed, many}
-use Rattle.atn.specs.Reading.{Rec, rec, ok, times, flags, read}
+use Rattle.atn.specs.Format.{Fmt, lack, num, many}
+use Rattle.atn.specs.Reading.{Rec, rec, times, flags, read}
 use Rattle.atn.specs.Tags as tag
 use Rattle.cursor.specs.declared.place.Cursor.{Cursor}
 use Rattle.cursor.specs.declared.place.Got.{Got}
@@ -14,26 +14,15 @@ use Rattle.cursor.specs.Place.{stopped, Takes}
 use Rattle.cursor.specs.Formats.{Times}
 use Rattle.field_ranges.specs.Ends.{lowest, highest}
 use Rattle.character_strings.specs.Texts.{Sized}
-use Rattle.cursor.proofs.Laws.{reads-then, reads-here, marked-nil}
 use Rattle.cursor.proofs.FormatLaws.{allRead}
 use Rattle.records.specs.Told.{Told}
-use Rattle.records.proofs.Telling.{told-then}
-use Rattle.cm_parts.specs.declared.parts.Step.{Step}
-use Rattle.cm_parts.specs.Does.{Does}
-use Rattle.cm_applications.specs.Applications.{At, entryOf, listOf}
-use Rattle.cm_parts.proofs.DoesLaws.{does-within, does-refused, does-must, does-last, does-plain, behind}
+use Rattle.runs.specs.declared.At.{At}
+use Rattle.told_fields.specs.Does.{Does, InPlace}
+use Rattle.cm_applications.specs.Applications.{entryOf, listOf}
+use Rattle.told_fields.proofs.DoesLaws.{does-within, does-as, does-refused, does-then, does-must, does-last, does-plain, behind}
+use Rattle.told_fields.proofs.ListLaws.{does-placed, times-at-end, times-stopped}
 
 ---------------------------------------------------------------- entries
-
-module _ {t i : ℕ} {f : Fmt} {s : List ℕ} {a z : Step} {w w₁ w₂ : List ℕ} {m b : ℕ} where
-  does-placed : Told 1 w w₁ (a .n) m (rec t 0 i 0 (a .c .at) ∷ []) → Does b (Takes f s) (record { c = a .c; n = m }) z w₁ w₂ → Does (1 + b) (At (placed t f) i s) a z w w₂
-  unfolding read
-  does-placed e x =
-      record {
-        recs = λ n. rec t n i 0 (a .c .at) ∷ x .recs n;
-        reads = record { took = λ n. reads-then (λ u p. ok p (rec t n i 0 p ∷ []) 0) (λ u p. read f (n, i) (bitOf s) u p) (reads-here (λ p. rec t n i 0 p ∷ []) 0 (marked-nil (a .c))) (x .reads .took (n, i)) };
-        told = told-then e (x .told);
-      }
 
 abbrev qualifier : Fmt
 qualifier = num tag.ae-qualifier (lowest 43) (highest 43)
@@ -42,18 +31,26 @@ abbrev version : Fmt
 version = num tag.ap-version (lowest 44) (highest 44)
 
 -- the record of an entry's place, and its two numbers
-module _ {t i : ℕ} {s : List ℕ} {a b z : Step} {w w₁ w₂ w₃ : List ℕ} {m : ℕ} (place : Told 1 w w₁ (a .n) m (rec t 0 i 0 (a .c .at) ∷ [])) where
-  pub entry-plain : {v : Bool} → v ≡ false → Does 1 (Takes qualifier s) (record { c = a .c; n = m }) b w₁ w₂ → Does 1 (Takes version s) b z w₂ w₃ → Does 3 (At (entryOf v t) i s) a z w w₃
+module _ {t i : ℕ} {s : List ℕ} {a b z : At} {w w₁ w₂ w₃ : List ℕ} {m : ℕ} (place : Told 1 w w₁ (a .n) m (rec t 0 i 0 (a .c .at) ∷ [])) where
+  pub entry-plain : {v : Bool} → v ≡ false → Does 1 0 (Takes qualifier s) (record { n = m; c = a .c }) b w₁ w₂ → Does 1 0 (Takes version s) b z w₂ w₃ → Does 3 0 (InPlace (entryOf v t) i s) a z w w₃
   unfolding lowest highest flags allRead
   entry-plain e x y = rw e (does-placed place (does-plain refl refl (does-must x (does-last y))))
 
   -- the address is not supplied
-  pub entry-addressed : {v : Bool} {y : Step} → v ≡ true → Does 1 (Takes qualifier s) (record { c = a .c; n = m }) b w₁ w₂ → Does 1 (Takes version s) b z w₂ w₃
-      → y ≡ record { c = stopped (z .c) 6 0; n = z .n } → Does 3 (At (entryOf v t) i s) a y w w₃
+  pub entry-addressed : {v : Bool} {y : At} → v ≡ true → Does 1 0 (Takes qualifier s) (record { n = m; c = a .c }) b w₁ w₂ → Does 1 0 (Takes version s) b z w₂ w₃
+      → y ≡ record { n = z .n; c = stopped (z .c) 6 0 } → Does 3 0 (InPlace (entryOf v t) i s) a y w w₃
   unfolding lowest highest flags allRead
   entry-addressed e x y q = rw e (does-placed place (does-plain refl refl (does-must x (does-must y (does-last (does-refused lack 0 (λ z. omega arith) q))))))
 
 ---------------------------------------------------------------- lists
+
+module _ {f : Fmt} {i : ℕ} {s : List ℕ} {a : At} where
+  pub entries-more : {m z : At} {w w₁ w₂ : List ℕ} → Does (i * 3) 0 (Times f 1 i s) a m w w₁ → Does 3 0 (InPlace f (i + 1) s) m z w₁ w₂ → Does ((i + 1) * 3) 0 (Times f 1 (i + 1) s) a z w w₂
+  entries-more x y = does-within _ (omega arith) (does-then (λ T U h g. times-at-end h g) x y)
+
+  -- the reading has stopped, so it has for all the entries that are left
+  pub entries-stopped : {z : At} {w w′ : List ℕ} (n : ℕ) → i ≤ n → (z .c .why ≡ 0 → ⊥) → Does (i * 3) 0 (Times f 1 i s) a z w w′ → Does (n * 3) 0 (Times f 1 n s) a z w w′
+  entries-stopped n l h x = does-within _ (omega arith) (does-as (λ T g. times-stopped l h g) x)
 
 same-list : (b : Bool) (t : ℕ) → many 1 256 (entryOf b t) ≡ listOf b t
 same-list true t = refl
@@ -63,7 +60,7 @@ takes-many : {f : Fmt} {s : List ℕ} {c d : Cursor} {T : ℕ → List Rec} (g :
 unfolding read lowest highest
 takes-many {f} {s} g z h = record { took = λ x. z .size (λ k e q. times (λ i p. read f (x .0, i) (bitOf s) e p) 1 k q) (h .took x) }
 
-pub does-list : (b : Bool) {t : ℕ} {s : List ℕ} {a z : Step} {w w′ : List ℕ} (g : Got) → Sized 57 s (a .c) g → Does (g .v * 3) (Times (entryOf b t) 1 (g .v) s) (behind g a) z w w′ → Does 1536 (Takes (listOf b t) s) a z w w′
+pub does-list : (b : Bool) {t : ℕ} {s : List ℕ} {a z : At} {w w′ : List ℕ} (g : Got) → Sized 57 s (a .c) g → Does (g .v * 3) 0 (Times (entryOf b t) 1 (g .v) s) (behind g a) z w w′ → Does 1536 0 (Takes (listOf b t) s) a z w w′
 does-list b {t} g z x =
     let few = z .few in
     let y = does-within 1536 (omega arith) x in

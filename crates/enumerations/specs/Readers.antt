@@ -1,4 +1,4 @@
--- What the readers of names and reasons read: the formats of document 01, and the records of their values.
+-- What the readers of names read: the formats of document 01, and the records of their values.
 use mathlib.Core.List.{List}
 use Prim.Native.Nat.{ℕ}
 use Rattle.atn.specs.Format.{many}
@@ -13,9 +13,6 @@ use Rattle.enumerations.specs.Records.{nameRecs, tripleRecs}
 -- a name of the row k, whatever its tag
 pub record Names (k : ℕ) (s : List ℕ) (c : Cursor) (r : NameAt) : Type 0 where
   pub reads : (t : ℕ) → Takes (message.extName t (highest k)) s c (r .c) (nameRecs t (r .name))
-
-pub record Reasons (k : ℕ) (s : List ℕ) (c : Cursor) (r : NameAt) : Type 0 where
-  pub reads : (t : ℕ) → Takes (message.extReason t (highest k)) s c (r .c) (nameRecs t (r .name))
 
 pub record Triples (s : List ℕ) (c : Cursor) (r : TripleAt) : Type 0 where
   pub reads : Takes (many 3 3 message.speedType) s c (r .c) (tripleRecs (r .triple))

@@ -1,8 +1,8 @@
-// Names and reasons with an extension marker. An extended one is told as value 0 and second number 1, and what follows the bit is not read.
+// Names with an extension marker. An extended one is told as value 0 and second number 1, and what follows the bit is not read.
 // The extension bit is no field's: a name starts behind it, and an extended one has the place where the reading stood.
 ghost use mathlib.Core.Path.{_≡_};
 ghost use Rattle.field_ranges.specs.Ranges.{Listed};
-ghost use Rattle.enumerations.specs.Readers.{Names, Reasons, Triples};
+ghost use Rattle.enumerations.specs.Readers.{Names, Triples};
 use cursor::place::Cursor;
 use cursor::place::bits;
 use cursor::place::mark;
@@ -13,7 +13,6 @@ use field_ranges::table::Range;
 use field_ranges::table::SPEED_TYPE;
 use field_ranges::table::TRAFFIC_TYPE;
 use ranged_numbers::named;
-use ranged_numbers::ranged;
 
 pub struct Name {
     pub value: u64,
@@ -34,31 +33,6 @@ fn read_name(s: &[u8], c: Cursor, range: Range) -> NameAt
     let extension = bits(s, c, 1);
     if extension.v == 0 {
         let g = named(s, extension.c, range);
-        let end = g.c;
-        let name = Name {
-            value: g.v,
-            second: 0,
-            at: extension.c.at,
-        };
-        return NameAt { name: name, c: end };
-    }
-    let end = mark(extension.c, 2);
-    let name = Name {
-        value: 0,
-        second: 1,
-        at: end.at,
-    };
-    NameAt { name: name, c: end }
-}
-
-// A reason of the range, which is told above the range too, with mark 1.
-pub fn read_reason(s: &[u8], c: Cursor, range: Range) -> NameAt
-    requires { ⌜ Listed range × (range .lo ≡ 0) ⌝ }
-    ensures { λ r. ⌜ Reasons (range .row) (now (s .entry)) c r ⌝ }
-{
-    let extension = bits(s, c, 1);
-    if extension.v == 0 {
-        let g = ranged(s, extension.c, range);
         let end = g.c;
         let name = Name {
             value: g.v,

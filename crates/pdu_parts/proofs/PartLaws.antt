@@ -1,4 +1,4 @@
--- Reasons and the extension, told and not.
+-- The extension, told and not.
 use mathlib.Core.Path.{_≡_}
 use mathlib.Core.List.{List, [], _∷_}
 use Prim.Native.Nat.{ℕ}
@@ -16,19 +16,7 @@ use Rattle.records.specs.Told.{Told}
 use Rattle.runs.specs.Runs.{Runs}
 use Rattle.runs.proofs.FrameLaws.{runs-noted}
 use Rattle.runs.proofs.RunLaws.{runs-told, runs-untold, runs-within}
-use Rattle.enumerations.specs.declared.NameAt.{NameAt}
-use Rattle.enumerations.specs.Readers.{Reasons}
-use Rattle.enumerations.specs.Records.{nameRecs}
-use Rattle.pdu_parts.specs.Parts.{reasonAt, extensionAt}
-
-module _ (row t : ℕ) {s : List ℕ} {c : Cursor} {g : NameAt} {n : ℕ} {w : List ℕ} (h : Reasons row s c g) where
-  pub reason-told : {m : ℕ} {w′ : List ℕ} → g .c .why ≡ 0 → Told 1 w w′ n m (nameRecs t (g .name) 0) → Runs 1 (reasonAt row t s) s c n w w′ (record { n = m; c = g .c })
-  unfolding reasonAt
-  reason-told z x = runs-told (reasonAt row t s) (h .reads t .took (0, 0)) z x
-
-  pub reason-untold : (g .c .why ≡ 0 → ⊥) → Runs 1 (reasonAt row t s) s c n w w (record { n = n; c = g .c })
-  unfolding reasonAt
-  reason-untold z = runs-within 1 (reasonAt row t s) (omega arith) (runs-untold (reasonAt row t s) (h .reads t .took (0, 0)) z)
+use Rattle.pdu_parts.specs.Parts.{extensionAt}
 
 -- the index of an alternative behind the extension bit
 module _ {s : List ℕ} {c d : Cursor} {g : Got} {n m : ℕ} {w w₁ : List ℕ} (goes : c .why ≡ 0) (t : Told 1 w w₁ n m (rec 2 0 0 1 (c .at) ∷ [])) (q : d ≡ marked c 2) (h : Smalls s d g) where

@@ -7,25 +7,22 @@ ghost use Rattle.pdu_parts.specs.Parts.{reasonAt, extensionAt};
 ghost use Rattle.runs.specs.Runs.{Runs};
 use cursor::place::Cursor;
 use cursor::place::mark;
-use enumerations::read_reason;
 use field_ranges::table::Range;
 use length_determinants::small;
 use records::emit;
 use runs::At;
-use tell_values::tell_name;
+use told_fields::reasons::reason;
 
 // The reason of an abort or of a forward response.
 pub fn reason_part(s: &[u8], words: &mut [u64], n: usize, c: Cursor, range: Range, tag: u64) -> At
     requires { ⌜ Listed range × (range .lo ≡ 0) × (n < 2 ^ 31) ⌝ }
     ensures { λ r. ⌜ Runs 1 (reasonAt (range .row) tag (now (s .entry))) (now (s .entry)) c n (now (words .entry)) (now (words .exit)) r ⌝ }
 {
-    let g = read_reason(s, c, range);
-    let d = g.c;
-    if d.why != 0 {
-        return At { n: n, c: d };
+    let at = At { n: n, c: c };
+    if c.why != 0 {
+        return at;
     }
-    let m = tell_name(words, n, 0, tag, g.name);
-    At { n: m, c: d }
+    reason(words, at, s, 0, tag, range)
 }
 
 // An alternative that the extension bit names: its index is told, and nothing else is read.

@@ -2,7 +2,7 @@ use mathlib.Core.Path.{refl}
 use native.Mathlib.Omega.{arith}
 use Rattle.atn.specs.Reading.{flags}
 use Rattle.cursor.proofs.FormatLaws.{allRead}
-use Rattle.cm_parts.proofs.DoesLaws.{does-plain, does-must, does-last, does-as}
+use Rattle.told_fields.proofs.DoesLaws.{does-plain, does-must, does-last, does-as}
 use Rattle.cm_addresses.proofs.SpanLaws.{span-fixed}
 use borrow.Author.Needs.{needs}
 use Rattle.cm_addresses.proofs.long_tsap.Statement.{statement}

@@ -1,4 +1,4 @@
-use Rattle.cm_parts.proofs.DoesLaws.{does-none, does-some, does-as}
+use Rattle.told_fields.proofs.DoesLaws.{does-none, does-some, does-as}
 use Rattle.cm_addresses.proofs.SpanLaws.{span-fixed}
 use borrow.Author.Needs.{needs}
 use Rattle.cm_addresses.proofs.maybe_ars.Statement.{statement}

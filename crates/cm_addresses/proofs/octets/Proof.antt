@@ -1,6 +1,6 @@
 use mathlib.Core.List.{[], _∷_}
 use Rattle.atn.specs.Reading.{rec}
-use Rattle.cm_parts.proofs.DoesLaws.{does-quiet, does-within}
+use Rattle.told_fields.proofs.DoesLaws.{does-quiet, does-within}
 use Rattle.cm_addresses.proofs.SpanLaws.{octets-none, octets-some}
 use mathlib.Core.Path.{refl}
 use native.Mathlib.Omega.{arith}

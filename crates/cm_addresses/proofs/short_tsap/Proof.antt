@@ -2,7 +2,7 @@ use mathlib.Core.Path.{refl}
 use native.Mathlib.Omega.{arith}
 use Rattle.atn.specs.Reading.{flags}
 use Rattle.cursor.proofs.FormatLaws.{allRead}
-use Rattle.cm_parts.proofs.DoesLaws.{does-opened, from-may, from-last, shown-last, since-opened}
+use Rattle.told_fields.proofs.DoesLaws.{does-opened, from-may, from-last, shown-last, since-opened}
 use borrow.Author.Needs.{needs}
 use Rattle.cm_addresses.proofs.short_tsap.Statement.{statement}
 use Rattle.cm_addresses.proofs.short_tsap.Tie as tie

@@ -1,4 +1,4 @@
-use Rattle.cm_parts.proofs.DoesLaws.{does-none, does-some}
+use Rattle.told_fields.proofs.DoesLaws.{does-none, does-some}
 use borrow.Author.Needs.{needs}
 use Rattle.cm_applications.proofs.maybe_entries.Statement.{statement}
 use Rattle.cm_applications.proofs.maybe_entries.Tie as tie

@@ -2,7 +2,7 @@ use mathlib.Core.Path.{refl}
 use Rattle.field_ranges.specs.Ends.{lowest, highest}
 use Rattle.atn.specs.Reading.{flags}
 use Rattle.cursor.proofs.FormatLaws.{allRead}
-use Rattle.cm_parts.proofs.DoesLaws.{does-plain, does-must, does-last}
+use Rattle.told_fields.proofs.DoesLaws.{does-plain, does-must, does-last}
 use borrow.Author.Needs.{needs}
 use Rattle.cm_logon.proofs.etd_time.Statement.{statement}
 use Rattle.cm_logon.proofs.etd_time.Tie as tie

@@ -1,6 +1,6 @@
 use native.Mathlib.Omega.{arith}
 use Rattle.field_ranges.specs.Ends.{lowest, highest}
-use Rattle.cm_parts.proofs.DoesLaws.{does-length}
+use Rattle.told_fields.proofs.DoesLaws.{does-length}
 use Rattle.cm_logon.proofs.LogonLaws.{request-does}
 use borrow.Author.Needs.{needs}
 use Rattle.cm_logon.proofs.logon_request.Statement.{statement}

@@ -1,7 +1,7 @@
 use mathlib.Core.Path.{refl}
 use Rattle.atn.specs.Reading.{flags}
 use Rattle.cursor.proofs.FormatLaws.{allRead}
-use Rattle.cm_parts.proofs.DoesLaws.{does-none, does-some, does-plain, does-must, does-last}
+use Rattle.told_fields.proofs.DoesLaws.{does-none, does-some, does-plain, does-must, does-last}
 use borrow.Author.Needs.{needs}
 use Rattle.cm_logon.proofs.maybe_etd.Statement.{statement}
 use Rattle.cm_logon.proofs.maybe_etd.Tie as tie

@@ -1,6 +1,6 @@
 use native.Mathlib.Omega.{arith}
 use Rattle.atn.specs.Format.{lack}
-use Rattle.cm_parts.proofs.DoesLaws.{does-none, does-some, does-refused}
+use Rattle.told_fields.proofs.DoesLaws.{does-none, does-some, does-refused}
 use borrow.Author.Needs.{needs}
 use Rattle.cm_logon.proofs.maybe_facility.Statement.{statement}
 use Rattle.cm_logon.proofs.maybe_facility.Tie as tie

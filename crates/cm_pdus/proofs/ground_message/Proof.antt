@@ -5,7 +5,8 @@ use Rattle.atn.specs.Format.{num}
 use Rattle.atn.specs.Messages.{cmLogonRequest, cmLogonResponse, cmAbort}
 use Rattle.atn.specs.Tags as tag
 use Rattle.field_ranges.specs.Ends.{lowest, highest}
-use Rattle.cm_pdus.proofs.PduLaws.{does-alternative, does-lacking, does-unlisted, ground-response, ground-unlisted}
+use Rattle.told_fields.proofs.ChoiceLaws.{does-alternative, does-lacking, does-unlisted}
+use Rattle.cm_pdus.proofs.PduLaws.{ground-response, ground-unlisted}
 use borrow.Author.Needs.{needs}
 use Rattle.cm_pdus.proofs.ground_message.Statement.{statement}
 use Rattle.cm_pdus.proofs.ground_message.Tie as tie

@@ -1,0 +1,4 @@
+pub mod DoesLaws
+pub mod ChoiceLaws
+pub mod ListLaws
+pub mod RunLaws

@@ -1,0 +1,40 @@
+// Texts whose length is a number of a range.
+ghost use Prim.Native.Nat.{_<_, _^_};
+ghost use Rattle.atn.specs.Format.{text, first};
+ghost use Rattle.cursor.specs.Place.{Takes};
+ghost use Rattle.cursor.specs.Formats.{Maybe};
+ghost use Rattle.field_ranges.specs.Ends.{lowest, highest};
+ghost use Rattle.character_strings.specs.Texts.{SizeRow};
+ghost use Rattle.told_fields.specs.Does.{Does};
+use character_strings::ia5;
+use field_ranges::table::Range;
+use runs::At;
+use tell::tell_text;
+
+pub fn letters(words: &mut [u64], at: At, s: &[u8], element: u64, tag: u64, range: Range) -> At
+    requires { ⌜ (at .n < 2 ^ 31) × SizeRow range ⌝ }
+    ensures { λ r. ⌜ Does 64 element (Takes (text tag 128 (first 0) (lowest (range .row)) (highest (range .row))) (now (s .entry))) at r (now (words .entry)) (now (words .exit)) ⌝ }
+{
+    let x = ia5(s, at.c, range);
+    let c = x.c;
+    let n = tell_text(words, at.n, tag, element, s, x.text);
+    At { n: n, c: c }
+}
+
+pub fn maybe_letters(
+    words: &mut [u64],
+    at: At,
+    s: &[u8],
+    has: u64,
+    element: u64,
+    tag: u64,
+    range: Range,
+) -> At
+    requires { ⌜ (at .n < 2 ^ 31) × SizeRow range ⌝ }
+    ensures { λ r. ⌜ Does 64 element (Maybe has (text tag 128 (first 0) (lowest (range .row)) (highest (range .row))) (now (s .entry))) at r (now (words .entry)) (now (words .exit)) ⌝ }
+{
+    if has == 0 {
+        return at;
+    }
+    letters(words, at, s, element, tag, range)
+}
