@@ -96,7 +96,7 @@ fn ahead(s: &[u8], c: Cursor, n: usize) -> bool
 }
 
 // So many characters of seven bits, passed over. Without room for all, the reading ran out behind the last whole one, and lacked what is not there of the next.
-fn characters(s: &[u8], c: Cursor, len: usize) -> TextAt
+pub fn characters(s: &[u8], c: Cursor, len: usize) -> TextAt
     ensures { λ r. ⌜ Passed len (now (s .entry)) c r ⌝ }
 {
     let at = c.at;

@@ -5,7 +5,7 @@ use mathlib.Core.List.{List, [], _∷_}
 use Prim.Native.Nat.{ℕ, _+_, _*_, _≤_}
 use native.Mathlib.Omega.{arith}
 use Rattle.x691.specs.Bits.{bitOf}
-use Rattle.atn.specs.Format.{Fmt, lack, num, many}
+use Rattle.atn.specs.Format.{Fmt, lack, many}
 use Rattle.atn.specs.Reading.{Rec, rec, times, flags, read}
 use Rattle.atn.specs.Tags as tag
 use Rattle.cursor.specs.declared.place.Cursor.{Cursor}
@@ -14,33 +14,36 @@ use Rattle.cursor.specs.Place.{stopped, Takes}
 use Rattle.cursor.specs.Formats.{Times}
 use Rattle.field_ranges.specs.Ends.{lowest, highest}
 use Rattle.character_strings.specs.Texts.{Sized}
-use Rattle.cursor.proofs.FormatLaws.{allRead}
+use Rattle.ranged_numbers.specs.Numbers.{Ranged}
+use Rattle.cursor.proofs.FormatLaws.{allRead, takes-plain, takes-refuse, fields-must, fields-last}
 use Rattle.records.specs.Told.{Told}
 use Rattle.runs.specs.declared.At.{At}
 use Rattle.told_fields.specs.Does.{Does, InPlace}
 use Rattle.cm_applications.specs.Applications.{entryOf, listOf}
-use Rattle.told_fields.proofs.DoesLaws.{does-within, does-as, does-refused, does-then, does-must, does-last, does-plain, behind}
-use Rattle.told_fields.proofs.ListLaws.{does-placed, times-at-end, times-stopped}
+use Rattle.told_fields.proofs.DoesLaws.{does-within, does-as, does-then, behind}
+use Rattle.told_fields.proofs.ListLaws.{in-place, times-at-end, times-stopped}
 
 ---------------------------------------------------------------- entries
 
-abbrev qualifier : Fmt
-qualifier = num tag.ae-qualifier (lowest 43) (highest 43)
-
-abbrev version : Fmt
-version = num tag.ap-version (lowest 44) (highest 44)
-
 -- the record of an entry's place, and its two numbers
-module _ {t i : ℕ} {s : List ℕ} {a b z : At} {w w₁ w₂ w₃ : List ℕ} {m : ℕ} (place : Told 1 w w₁ (a .n) m (rec t 0 i 0 (a .c .at) ∷ [])) where
-  pub entry-plain : {v : Bool} → v ≡ false → Does 1 0 (Takes qualifier s) (record { n = m; c = a .c }) b w₁ w₂ → Does 1 0 (Takes version s) b z w₂ w₃ → Does 3 0 (InPlace (entryOf v t) i s) a z w w₃
+module _ {t i m : ℕ} {s : List ℕ} {a : At} {x y : Got} {w w′ : List ℕ} (qualifier : Ranged 43 s (a .c) x) (version : Ranged 44 s (x .c) y)
+    (told : Told 3 w w′ (a .n) m (rec t 0 i 0 (a .c .at) ∷ rec tag.ae-qualifier 0 (x .v) 0 (a .c .at) ∷ rec tag.ap-version 0 (y .v) 0 (x .c .at) ∷ [])) where
+  abbrev entryRecs : ℕ → List Rec
+  entryRecs n = rec t n i 0 (a .c .at) ∷ rec tag.ae-qualifier n (x .v) 0 (a .c .at) ∷ rec tag.ap-version n (y .v) 0 (x .c .at) ∷ []
+
+  pub entry-plain : {v : Bool} → v ≡ false → Does 3 0 (InPlace (entryOf v t) i s) a (record { n = m; c = y .c }) w w′
   unfolding lowest highest flags allRead
-  entry-plain e x y = rw e (does-placed place (does-plain refl refl (does-must x (does-last y))))
+  entry-plain e = rw e (record { recs = entryRecs; reads = in-place (takes-plain refl refl (fields-must (qualifier .number tag.ae-qualifier) (fields-last (version .number tag.ap-version)))); told = told })
 
   -- the address is not supplied
-  pub entry-addressed : {v : Bool} {y : At} → v ≡ true → Does 1 0 (Takes qualifier s) (record { n = m; c = a .c }) b w₁ w₂ → Does 1 0 (Takes version s) b z w₂ w₃
-      → y ≡ record { n = z .n; c = stopped (z .c) 6 0 } → Does 3 0 (InPlace (entryOf v t) i s) a y w w₃
+  pub entry-addressed : {v : Bool} {z : At} → v ≡ true → z ≡ record { n = m; c = stopped (y .c) 6 0 } → Does 3 0 (InPlace (entryOf v t) i s) a z w w′
   unfolding lowest highest flags allRead
-  entry-addressed e x y q = rw e (does-placed place (does-plain refl refl (does-must x (does-must y (does-last (does-refused lack 0 (λ z. omega arith) q))))))
+  entry-addressed e q =
+      rw (e, q) (record {
+        recs = entryRecs;
+        reads = in-place (takes-plain refl refl (fields-must (qualifier .number tag.ae-qualifier) (fields-must (version .number tag.ap-version) (fields-last (takes-refuse {T = λ n. []} lack 0 (λ z. omega arith) refl)))));
+        told = told;
+      })
 
 ---------------------------------------------------------------- lists
 

@@ -13,23 +13,14 @@ use Rattle.cursor.specs.declared.place.Cursor.{Cursor}
 use Rattle.cursor.specs.Place.{Led, stayed, went, failed, Takes}
 use Rattle.cursor.specs.Formats.{Times}
 use Rattle.cursor.proofs.Laws.{reads-same, reads-then, reads-here, marked-nil}
-use Rattle.records.specs.Told.{Told}
-use Rattle.records.proofs.Telling.{told-then}
-use Rattle.runs.specs.declared.At.{At}
-use Rattle.told_fields.specs.Does.{Does, InPlace}
+use Rattle.told_fields.specs.Does.{InPlace}
 
 ---------------------------------------------------------------- a record before a part
 
-module _ {en t b m : ℕ} {f : Fmt} {s : List ℕ} {a z : At} {w w₁ w₂ : List ℕ} where
-  -- the part's place in its list
-  pub does-placed : {i : ℕ} → Told 1 w w₁ (a .n) m (rec t en i 0 (a .c .at) ∷ []) → Does b en (Takes f s) (record { n = m; c = a .c }) z w₁ w₂ → Does (1 + b) en (InPlace (placed t f) i s) a z w w₂
-  unfolding read
-  does-placed {i} e x =
-      record {
-        recs = λ n. rec t n i 0 (a .c .at) ∷ x .recs n;
-        reads = record { took = λ n. reads-then (λ u p. ok p (rec t n i 0 p ∷ []) 0) (λ u p. read f (n, i) (bitOf s) u p) (reads-here (λ p. rec t n i 0 p ∷ []) 0 (marked-nil (a .c))) (x .reads .took (n, i)) };
-        told = told-then e (x .told);
-      }
+-- the part's place in its list
+pub in-place : {t i : ℕ} {f : Fmt} {s : List ℕ} {c d : Cursor} {T : ℕ → List Rec} → Takes f s c d T → InPlace (placed t f) i s c d (λ n. rec t n i 0 (c .at) ∷ T n)
+unfolding read
+in-place {t} {i} {f} {s} {c} h = record { took = λ n. reads-then (λ u p. ok p (rec t n i 0 p ∷ []) 0) (λ u p. read f (n, i) (bitOf s) u p) (reads-here (λ p. rec t n i 0 p ∷ []) 0 (marked-nil c)) (h .took (n, i)) }
 
 ---------------------------------------------------------------- one part more at the end
 
