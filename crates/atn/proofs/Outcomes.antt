@@ -55,7 +55,7 @@ pub settle-full : (c : Bool) (p m : ℕ) (R : List Rec) (w : List ℕ) → lengt
 unfolding settle
 settle-full c p m R w h = rw (lt-leb (need R) (length w) h)
 
--- four words to a record, so the lent words keep their number
+-- five words to a record, so the lent words keep their number
 flat-need : (R : List Rec) → length (flat R) ≡ need R
 unfolding flat need
 flat-need [] = refl

@@ -1,4 +1,4 @@
-// What both programs say of an answer. Reach, mark sum and number of records, or number and reach.
+// What the line programs say of an answer. Reach, mark sum and number of records, or number and reach.
 ghost use Prim.Native.Nat.{_≤_};
 ghost use lib.ListN.{length};
 use line_output::output::Output;

@@ -8,24 +8,19 @@ use Rattle.fixture_writer.proofs.write_list.Lts as lts
 use Rattle.message_nodes.proofs.root.Reads as root-reads
 use Rattle.write_nodes.proofs.node.write_node.Reads as write-node-reads
 
--- src/lib.rt:106:9
 root-requires : tie.Need-root-requires
 root-requires c κs = search needs
 
--- src/lib.rt:107:16
 slice-aggregate-write-node : tie.Need-slice-aggregate-write-node
 slice-aggregate-write-node c = search needs
 
--- src/lib.rt:107:5
 write-node-requires : tie.Need-write-node-requires
 unfolding table
 write-node-requires c κs = root-ready (c .before .before .before .before .before .before .before .before .args .kind) (c .before .before .before .before .before .before .before .before .args .direction) _ _ _ _ _ _ (c .before .before .root .ensures) ((c .before .before .before .before .before .before .before .before .pre) .2) ((c .before .before .before .before .before .before .before .before .pre) .3) ((c .before .before .before .before .before .before .before .before .pre) .4) ((c .before .before .before .before .before .before .before .before .pre) .5) ((c .before .before .before .before .before .before .before .before .pre) .6)
 
--- src/lib.rt:88:1
 same-length : tie.Need-same-length
 same-length c = search needs
 
--- src/lib.rt:88:1
 returns : tie.Need-returns
 unfolding table
 returns c = λ f h. root-part (c .before .before .before .before .before .before .before .before .before .before .before .args .kind) (c .before .before .before .before .before .before .before .before .before .before .before .args .direction) _ _ _ f _ _ _ _ _ _ _ (c .before .before .before .before .before .root .ensures) h (c .before .before .write-node .ensures)

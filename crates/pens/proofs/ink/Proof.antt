@@ -8,23 +8,18 @@ use Rattle.pens.proofs.ink.Reads as reads
 use Rattle.pens.proofs.ink.Lts as lts
 use Rattle.bit_writer.proofs.number.put.Reads as put-reads
 
--- src/lib.rt:98:9
 returns : tie.Need-returns
 returns c = ink-far _ _ _ _ _ (c .if1 .taken)
 
--- src/lib.rt:100:5
 put-requires : tie.Need-put-requires
 put-requires c κs = search needs
 
--- src/lib.rt:103:13
 add-t10 : tie.Need-add-t10
 add-t10 c = search needs
 
--- src/lib.rt:92:1
 same-length : tie.Need-same-length
 same-length c = search needs
 
--- src/lib.rt:92:1
 returns-2 : tie.Need-returns-2
 returns-2 c = ink-near _ _ _ _ _ _ refl refl refl (c .before .before .put .ensures)
 

@@ -6,23 +6,18 @@ use Rattle.pens.proofs.is_tagged.Tie as tie
 use Rattle.pens.proofs.is_tagged.Reads as reads
 use Rattle.pens.proofs.is_tagged.Lts as lts
 
--- src/lib.rt:30:22
 mul-result : tie.Need-mul-result
 mul-result c = search needs
 
--- src/lib.rt:30:16
 mul-result-2 : tie.Need-mul-result-2
 mul-result-2 c = search needs
 
--- src/lib.rt:30:16
 shared-slice-read-result : tie.Need-shared-slice-read-result
 shared-slice-read-result c = search needs
 
--- src/lib.rt:30:9
 returns : tie.Need-returns
 returns c = λ b. sym (tagged-at b (c .before .before .args .words .now) (c .before .before .args .m) (c .before .before .args .i) (c .before .before .args .tag) (c .before .if1 .taken))
 
--- src/lib.rt:25:1
 returns-2 : tie.Need-returns-2
 returns-2 c = λ b. sym (tagged-end b (c .before .args .words .now) (c .before .args .m) (c .before .args .i) (c .before .args .tag) (c .if1 .left))
 

@@ -10,27 +10,21 @@ use Rattle.pens.proofs.take.Lts as lts
 use Rattle.pens.proofs.is_record.Reads as is-record-reads
 use Rattle.pens.proofs.refuse.Reads as refuse-reads
 
--- src/lib.rt:78:9
 returns : tie.Need-returns
 returns c = λ b X. writes-still _ _ _ _ _ X _ X (c .if1 .taken) (c .if1 .taken)
 
--- src/lib.rt:81:8
 is-record-requires : tie.Need-is-record-requires
 is-record-requires c κs = search needs
 
--- src/lib.rt:83:19
 add-t11 : tie.Need-add-t11
 add-t11 c = omega (arith, ((c .before .is-record .ensures) .1 (c .if2 .taken)), ((c .before .before .before .before .pre) .1))
 
--- src/lib.rt:82:9
 returns-2 : tie.Need-returns-2
 returns-2 c = λ b X. took-record _ _ _ _ _ X (c .before .before .if1 .left) (sym ((c .before .is-record .ensures) .0 b) ∙ (c .if2 .taken)) (items-drop b (c .before .before .before .before .args .words .now) (c .before .before .before .before .args .m) (c .before .before .before .before .args .p .next) ((c .before .is-record .ensures) .1 (c .if2 .taken))) (omega (arith, (c .before .is-record .ensures) .1 (c .if2 .taken))) refl refl
 
--- src/lib.rt:88:5
 refuse-requires : tie.Need-refuse-requires
 refuse-requires c κs = search needs
 
--- src/lib.rt:73:1
 returns-3 : tie.Need-returns-3
 returns-3 c = λ b X. other-record _ _ _ _ _ X (c .before .before .before .if1 .left) (sym ((c .before .before .is-record .ensures) .0 b) ∙ (c .before .if2 .left)) (c .refuse .ensures)
 

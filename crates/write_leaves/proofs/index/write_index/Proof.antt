@@ -11,75 +11,57 @@ use Rattle.pens.proofs.is_record.Reads as is-record-reads
 use Rattle.per.proofs.width.bits_for.Reads as bits-for-reads
 use Rattle.write_leaves.proofs.index.none.Reads as none-reads
 
--- src/index.rt:25:9
 returns : tie.Need-returns
 returns c = λ b. indexes-still b (c .before .before .before .args .words .now) (c .before .before .before .args .m) (c .before .before .before .args .tag) (c .before .before .before .args .element) (c .before .before .before .args .n) _ _ _ _ (c .if1 .taken) (c .if1 .taken) (omega (arith, c .before .before .before .pre .3))
 
--- src/index.rt:29:9
 none-requires : tie.Need-none-requires
 none-requires c κs = search needs
 
--- src/index.rt:29:9
 returns-2 : tie.Need-returns-2
 returns-2 c = λ b. indexes-end b (c .before .before .before .before .before .args .words .now) (c .before .before .before .before .before .args .m) (c .before .before .before .before .before .args .tag) (c .before .before .before .before .before .args .element) (c .before .before .before .before .before .args .n) _ _ _ _ (c .before .before .if1 .left) (c .before .if2 .taken) (c .none .ensures) (c .before .before .before .before .before .pre .3)
 
--- src/index.rt:31:19
 mul-v : tie.Need-mul-v
 mul-v c = search needs
 
--- src/index.rt:31:19
 add-v : tie.Need-add-v
 add-v c = search needs
 
--- src/index.rt:31:13
 mul-v-2 : tie.Need-mul-v-2
 mul-v-2 c = search needs
 
--- src/index.rt:31:13
 shared-slice-read-v : tie.Need-shared-slice-read-v
 shared-slice-read-v c = search needs
 
--- src/index.rt:33:9
 none-requires-2 : tie.Need-none-requires-2
 none-requires-2 c κs = search needs
 
--- src/index.rt:33:9
 returns-3 : tie.Need-returns-3
 returns-3 c = λ b. indexes-high b (c .before .before .before .before .before .before .before .args .words .now) (c .before .before .before .before .before .before .before .args .m) (c .before .before .before .before .before .before .before .args .tag) (c .before .before .before .before .before .before .before .args .element) (c .before .before .before .before .before .before .before .args .n) _ _ _ _ (c .before .before .before .before .if1 .left) (c .before .before .before .if2 .left) (c .before .if3 .taken) (c .none2 .ensures) (c .before .before .before .before .before .before .before .pre .3)
 
--- src/index.rt:35:8
 is-record-requires : tie.Need-is-record-requires
 is-record-requires c κs = search needs
 
--- src/index.rt:36:38
 sub-bits-for : tie.Need-sub-bits-for
 sub-bits-for c = search needs
 
--- src/index.rt:36:29
 bits-for-requires : tie.Need-bits-for-requires
 bits-for-requires c κs = search needs
 
--- src/index.rt:36:13
 ink-requires : tie.Need-ink-requires
 ink-requires c κs = ((c .bits-for .ensures) .1, index-fits (c .before .before .before .before .before .before .before .before .before .before .args .n) (c .before .before .before .before .if3 .left) ((c .bits-for .ensures) .0))
 
--- src/index.rt:38:19
 add-t21 : tie.Need-add-t21
 add-t21 c = search needs
 
--- src/index.rt:42:9
 same-length : tie.Need-same-length
 same-length c = search needs
 
--- src/index.rt:42:9
 returns-4 : tie.Need-returns-4
 returns-4 c = λ b. indexes-got b (c .before .before .before .before .before .before .before .before .before .before .before .before .before .args .words .now) (c .before .before .before .before .before .before .before .before .before .before .before .before .before .args .m) (c .before .before .before .before .before .before .before .before .before .before .before .before .before .args .tag) (c .before .before .before .before .before .before .before .before .before .before .before .before .before .args .element) (c .before .before .before .before .before .before .before .before .before .before .before .before .before .args .n) _ _ _ _ (c .before .before .ink .result) (c .before .before .before .before .before .before .before .before .before .before .if1 .left) (c .before .before .before .before .before .before .before .before .before .if2 .left) (c .before .before .before .before .before .before .before .if3 .left) (sym ((c .before .before .before .before .before .before .is-record .ensures) .0 b) ∙ (c .before .before .before .before .before .if4 .taken)) (inks-width ((c .before .before .before .bits-for .ensures) .0) (c .before .before .ink .ensures)) refl refl refl refl
 
--- src/index.rt:44:5
 none-requires-3 : tie.Need-none-requires-3
 none-requires-3 c κs = search needs
 
--- src/index.rt:20:1
 returns-5 : tie.Need-returns-5
 returns-5 c = λ b. indexes-other b (c .before .before .before .before .before .before .before .before .before .args .words .now) (c .before .before .before .before .before .before .before .before .before .args .m) (c .before .before .before .before .before .before .before .before .before .args .tag) (c .before .before .before .before .before .before .before .before .before .args .element) (c .before .before .before .before .before .before .before .before .before .args .n) _ _ _ _ (c .before .before .before .before .before .before .if1 .left) (c .before .before .before .before .before .if2 .left) (sym ((c .before .before .is-record .ensures) .0 b) ∙ (c .before .if4 .left)) (c .none3 .ensures) (c .before .before .before .before .before .before .before .before .before .pre .3)
 

@@ -13,113 +13,92 @@ use Rattle.write_spans.proofs.write_any_span.Reads as write-any-span-reads
 use Rattle.write_spans.proofs.write_span.Reads as write-span-reads
 use Rattle.write_leaves.proofs.letters.write_letters.Reads as write-letters-reads
 
--- src/leaf.rt:38:9
 write-number-requires : tie.Need-write-number-requires
 write-number-requires c κs =
     let e = c .before .before .before .before .before in
     (((e .pre) .0 .records), ((e .pre) .0 .few), (sure-number (e .args .a) (e .args .b) (e .args .c) (e .args .d) (e .args .e) (c .before .if1 .taken) ((e .pre) .2)))
 
--- src/leaf.rt:38:9
 same-length : tie.Need-same-length
 same-length c = search needs
 
--- src/leaf.rt:38:9
 returns : tie.Need-returns
 returns c =
     let e = c .before .before .before .before .before .before .before .before in
     λ F N D U y. part-as _ _ _ _ _ _ _ _ _ _ (number-leaf F N D U (e .args .a) (e .args .b) (e .args .c) (e .args .d) (e .args .e) (c .before .before .before .before .if1 .taken)) ((c .before .before .write-number .ensures) (bitOf (e .args .src .now)) y)
 
--- src/leaf.rt:41:9
 write-name-requires : tie.Need-write-name-requires
 write-name-requires c κs =
     let e = c .before .before .before .before .before .before in
     (((e .pre) .0 .records), ((e .pre) .0 .few), (sure-name (e .args .a) (e .args .b) (e .args .c) (e .args .d) (e .args .e) (c .before .if2 .taken) ((e .pre) .2)))
 
--- src/leaf.rt:41:9
 same-length-2 : tie.Need-same-length-2
 same-length-2 c = search needs
 
--- src/leaf.rt:41:9
 returns-2 : tie.Need-returns-2
 returns-2 c =
     let e = c .before .before .before .before .before .before .before .before .before in
     λ F N D U y. part-as _ _ _ _ _ _ _ _ _ _ (name-leaf F N D U (e .args .a) (e .args .b) (e .args .c) (e .args .d) (e .args .e) (c .before .before .before .before .if2 .taken)) ((c .before .before .write-name .ensures) (bitOf (e .args .src .now)) y)
 
--- src/leaf.rt:44:9
 write-reason-requires : tie.Need-write-reason-requires
 write-reason-requires c κs =
     let e = c .before .before .before .before .before .before .before in
     (((e .pre) .0 .records), ((e .pre) .0 .few), (sure-reason (e .args .a) (e .args .b) (e .args .c) (e .args .d) (e .args .e) (c .before .if3 .taken) ((e .pre) .2)))
 
--- src/leaf.rt:44:9
 same-length-3 : tie.Need-same-length-3
 same-length-3 c = search needs
 
--- src/leaf.rt:44:9
 returns-3 : tie.Need-returns-3
 returns-3 c =
     let e = c .before .before .before .before .before .before .before .before .before .before in
     λ F N D U y. part-as _ _ _ _ _ _ _ _ _ _ (reason-leaf F N D U (e .args .a) (e .args .b) (e .args .c) (e .args .d) (e .args .e) (c .before .before .before .before .if3 .taken)) ((c .before .before .write-reason .ensures) (bitOf (e .args .src .now)) y)
 
--- src/leaf.rt:47:9
 write-letters-requires : tie.Need-write-letters-requires
 write-letters-requires c κs =
     let e = c .before .before .before .before .before .before .before .before in
     let s = (sure-text (e .args .a) (e .args .b) (e .args .c) (e .args .d) (e .args .e) (c .before .if4 .taken) ((e .pre) .2)) in (((e .pre) .0 .records), ((e .pre) .0 .few), s .0, s .1)
 
--- src/leaf.rt:47:9
 same-length-4 : tie.Need-same-length-4
 same-length-4 c = search needs
 
--- src/leaf.rt:47:9
 returns-4 : tie.Need-returns-4
 returns-4 c =
     let e = c .before .before .before .before .before .before .before .before .before .before .before in
     λ F N D U y. part-as _ _ _ _ _ _ _ _ _ _ (text-leaf F N D U (e .args .a) (e .args .b) (e .args .c) (e .args .d) (e .args .e) (c .before .before .before .before .if4 .taken)) ((c .before .before .write-letters .ensures) (bitOf (e .args .src .now)) y)
 
--- src/leaf.rt:50:9
 write-span-requires : tie.Need-write-span-requires
 write-span-requires c κs =
     let e = c .before .before .before .before .before .before .before .before .before in
     let s = (sure-span (e .args .a) (e .args .b) (e .args .c) (e .args .d) (e .args .e) (c .before .if5 .taken) ((e .pre) .2)) in (((e .pre) .0 .records), ((e .pre) .0 .few), ((e .pre) .0 .bytes), ((e .pre) .0 .spans), s .0, s .1, s .3, s .4)
 
--- src/leaf.rt:50:9
 same-length-5 : tie.Need-same-length-5
 same-length-5 c = search needs
 
--- src/leaf.rt:50:9
 returns-5 : tie.Need-returns-5
 returns-5 c =
     let e = c .before .before .before .before .before .before .before .before .before .before .before .before in
     λ F N D U y. part-as _ _ _ _ _ _ _ _ _ _ (span-leaf F N D U (e .args .a) (e .args .b) (e .args .c) (e .args .d) (e .args .e) (c .before .before .before .before .if5 .taken)) ((c .before .before .write-span .ensures) y)
 
--- src/leaf.rt:53:9
 write-any-span-requires : tie.Need-write-any-span-requires
 write-any-span-requires c κs =
     let e = c .before .before .before .before .before .before .before .before .before .before in
     let s = (sure-any (e .args .a) (e .args .b) (e .args .c) (e .args .d) (e .args .e) (c .before .if6 .taken) ((e .pre) .2)) in (((e .pre) .0 .records), ((e .pre) .0 .few), ((e .pre) .0 .bytes), ((e .pre) .0 .spans), s .0, s .1)
 
--- src/leaf.rt:53:9
 same-length-6 : tie.Need-same-length-6
 same-length-6 c = search needs
 
--- src/leaf.rt:53:9
 returns-6 : tie.Need-returns-6
 returns-6 c =
     let e = c .before .before .before .before .before .before .before .before .before .before .before .before .before in
     λ F N D U y. part-as _ _ _ _ _ _ _ _ _ _ (any-leaf F N D U (e .args .a) (e .args .b) (e .args .c) (e .args .d) (e .args .e) (c .before .before .before .before .if6 .taken)) ((c .before .before .write-any-span .ensures) y)
 
--- src/leaf.rt:56:9
 returns-7 : tie.Need-returns-7
 returns-7 c =
     let e = c .before .before .before .before .before .before .before .before .before .before in
     λ F N D U y. part-as _ _ _ _ _ _ _ _ _ _ (null-leaf F N D U (e .args .a) (e .args .b) (e .args .c) (e .args .d) (e .args .e) (c .if7 .taken)) (null-part _ _ _ _ _ _ (e .args .p) (e .args .out .now))
 
--- src/leaf.rt:58:5
 refuse-requires : tie.Need-refuse-requires
 refuse-requires c κs = search needs
 
--- src/leaf.rt:20:1
 returns-8 : tie.Need-returns-8
 returns-8 c =
     let e = c .before .before .before .before .before .before .before .before .before .before .before in

@@ -11,105 +11,86 @@ use Rattle.pens.proofs.take.Reads as take-reads
 use Rattle.write_leaves.proofs.index.write_index.Reads as write-index-reads
 use Rattle.write_steps.proofs.lead.lent.Reads as lent-reads
 
--- src/lead.rt:46:13
 take-requires : tie.Need-take-requires
 take-requires c κs =
     let e = c .before .before .before .before .before in
     (((e .pre) .0), ((e .pre) .1), keeps-noted (e .args .node .a) (e .args .node .b) (e .args .node .c) (e .args .node .d) (e .args .node .e) (c .if1 .taken) ((e .pre) .7))
 
--- src/lead.rt:47:9
 returns : tie.Need-returns
 returns c =
     let e = c .before .before .before .before .before .before in
     λ F S N s h. leads-noted F S N (e .args .down .now) (e .args .up .now) (e .args .node) (e .args .x) (e .args .y) s _ _ _ _ _ _ (c .before .if1 .taken) h refl refl refl ((c .take .ensures) s _)
 
--- src/lead.rt:54:13
 take-requires-2 : tie.Need-take-requires-2
 take-requires-2 c κs =
     let e = c .before .before .before .before .before .before in
     (((e .pre) .0), ((e .pre) .1), keeps-placed (e .args .node .a) (e .args .node .b) (e .args .node .c) (e .args .node .d) (e .args .node .e) (c .if2 .taken) ((e .pre) .7))
 
--- src/lead.rt:55:9
 returns-2 : tie.Need-returns-2
 returns-2 c =
     let e = c .before .before .before .before .before .before .before in
     λ F S N s h. leads-placed F S N (e .args .down .now) (e .args .up .now) (e .args .node) (e .args .x) (e .args .y) s _ _ _ _ _ _ (c .before .if2 .taken) h refl refl refl ((c .take2 .ensures) s _)
 
--- src/lead.rt:62:9
 returns-3 : tie.Need-returns-3
 returns-3 c =
     let e = c .before .before .before .before .before .before .before in
     λ F S N s h. leads-element F S N (e .args .down .now) (e .args .up .now) (e .args .node) (e .args .x) (e .args .y) s _ _ _ _ _ _ (c .if3 .taken) h refl refl refl refl
 
--- src/lead.rt:69:13
 ink-requires : tie.Need-ink-requires
 ink-requires c κs = search needs
 
--- src/lead.rt:70:9
 same-length : tie.Need-same-length
 same-length c = search needs
 
--- src/lead.rt:70:9
 returns-4 : tie.Need-returns-4
 returns-4 c =
     let e = c .before .before .before .before .before .before .before .before .before .before .before .before in
     λ F S N s h. leads-ext F S N (e .args .down .now) (e .args .up .now) (e .args .node) (e .args .x) (e .args .y) s _ _ _ _ _ _ (c .before .before .before .before .if4 .taken) h refl refl (c .before .before .ink .ensures)
 
--- src/lead.rt:77:13
 write-index-requires : tie.Need-write-index-requires
 write-index-requires c κs =
     let e = c .before .before .before .before .before .before .before .before .before .before in
     let k = keeps-choice (e .args .node .a) (e .args .node .b) (e .args .node .c) (e .args .node .d) (e .args .node .e) (c .before .if5 .taken) ((e .pre) .7) in (((e .pre) .0), ((e .pre) .1), k .0, k .2)
 
--- src/lead.rt:80:16
 add-t31 : tie.Need-add-t31
 add-t31 c =
     let e = c .before .before .before .before .before .before .before .before .before .before .before .before .before .before in
     let k = keeps-choice (e .args .node .a) (e .args .node .b) (e .args .node .c) (e .args .node .d) (e .args .node .e) (c .before .before .before .before .before .if5 .taken) ((e .pre) .7) in omega (arith, k .1, k .3, (c .before .before .before .write-index .ensures) (λ _. 0) .below)
 
--- src/lead.rt:79:9
 same-length-2 : tie.Need-same-length-2
 same-length-2 c = search needs
 
--- src/lead.rt:79:9
 returns-5 : tie.Need-returns-5
 returns-5 c =
     let e = c .before .before .before .before .before .before .before .before .before .before .before .before .before .before in
     λ F S N s h. leads-choice F S N (e .args .down .now) (e .args .up .now) (e .args .node) (e .args .x) (e .args .y) s _ _ _ _ _ _ (c .before .before .before .before .before .if5 .taken) h (c .before .before .before .write-index .result) refl refl refl ((c .before .before .before .write-index .ensures) s)
 
--- src/lead.rt:87:13
 lent-requires : tie.Need-lent-requires
 lent-requires c κs =
     let e = c .before .before .before .before .before .before .before .before .before .before .before .before in
     let k = keeps-lent (e .args .node .a) (e .args .node .b) (e .args .node .c) (e .args .node .d) (e .args .node .e) (c .before .before .if6 .taken) ((e .pre) .7) in (((e .pre) .0), ((e .pre) .1), ((e .pre) .2), ((e .pre) .3), k .0, k .1)
 
--- src/lead.rt:87:13
 same-length-3 : tie.Need-same-length-3
 same-length-3 c = search needs
 
--- src/lead.rt:87:13
 returns-6 : tie.Need-returns-6
 returns-6 c =
     let e = c .before .before .before .before .before .before .before .before .before .before .before .before .before .before .before in
     λ F S N s h. leads-lent F S N (e .args .down .now) (e .args .up .now) (e .args .node) (e .args .x) (e .args .y) s _ _ _ _ _ _ (c .before .before .before .before .before .if6 .taken) h _ (lent-down _ _ _ (c .before .before .before .before .if7 .taken)) ((c .before .before .lent .ensures) F _ s)
 
--- src/lead.rt:89:9
 lent-requires-2 : tie.Need-lent-requires-2
 lent-requires-2 c κs =
     let e = c .before .before .before .before .before .before .before .before .before .before .before .before in
     let k = keeps-lent (e .args .node .a) (e .args .node .b) (e .args .node .c) (e .args .node .d) (e .args .node .e) (c .before .before .if6 .taken) ((e .pre) .7) in (((e .pre) .0), ((e .pre) .1), ((e .pre) .4), ((e .pre) .5), k .0, k .1)
 
--- src/lead.rt:89:9
 same-length-4 : tie.Need-same-length-4
 same-length-4 c = search needs
 
--- src/lead.rt:89:9
 returns-7 : tie.Need-returns-7
 returns-7 c =
     let e = c .before .before .before .before .before .before .before .before .before .before .before .before .before .before .before in
     λ F S N s h. leads-lent F S N (e .args .down .now) (e .args .up .now) (e .args .node) (e .args .x) (e .args .y) s _ _ _ _ _ _ (c .before .before .before .before .before .if6 .taken) h _ (lent-up _ _ _ (c .before .before .before .before .if7 .left)) ((c .before .before .lent2 .ensures) F _ s)
 
--- src/lead.rt:26:1
 returns-8 : tie.Need-returns-8
 returns-8 c =
     let e = c .before .before .before .before .before .before .before .before .before .before in

@@ -9,39 +9,30 @@ use Rattle.write_steps.proofs.lead.lent.Lts as lts
 use Rattle.pens.proofs.refuse.Reads as refuse-reads
 use Rattle.write_leaves.proofs.index.write_index.Reads as write-index-reads
 
--- src/lead.rt:112:9
 write-index-requires : tie.Need-write-index-requires
 write-index-requires c κs = search needs
 
--- src/lead.rt:115:16
 shared-slice-read-byte : tie.Need-shared-slice-read-byte
 shared-slice-read-byte c = omega (arith, (c .before .before .before .before .write-index .ensures) (λ _. 0) .below)
 
--- src/lead.rt:115:16
 cast-byte : tie.Need-cast-byte
 cast-byte c = omega (arith, c .shared-slice-known3 .given (c .before .before .before .before .write-index .result .v))
 
--- src/lead.rt:117:13
 refuse-requires : tie.Need-refuse-requires
 refuse-requires c κs = search needs
 
--- src/lead.rt:118:9
 same-length : tie.Need-same-length
 same-length c = search needs
 
--- src/lead.rt:118:9
 returns : tie.Need-returns
 returns c = λ F y s. lent-none F (c .before .before .before .before .before .before .before .before .before .before .before .args .tag) (c .before .before .before .before .before .before .before .before .before .before .before .args .k) _ (c .before .before .before .before .before .before .before .before .before .before .before .args .x) y s _ _ _ _ _ _ (c .before .before .before .before .before .before .write-index .result) ((c .before .before .before .before .before .before .write-index .ensures) s) (c .before .if1 .taken) refl refl (c .refuse .ensures)
 
--- src/lead.rt:121:12
 add-t16 : tie.Need-add-t16
 add-t16 c = search needs
 
--- src/lead.rt:99:1
 same-length-2 : tie.Need-same-length-2
 same-length-2 c = search needs
 
--- src/lead.rt:99:1
 returns-2 : tie.Need-returns-2
 returns-2 c = λ F y s. lent-there F (c .before .before .before .before .before .before .before .before .before .before .args .tag) (c .before .before .before .before .before .before .before .before .before .before .args .k) _ (c .before .before .before .before .before .before .before .before .before .before .args .x) y s _ _ _ _ _ _ (c .before .before .before .before .before .write-index .result) ((c .before .before .before .before .before .write-index .ensures) s) (c .if1 .left) refl refl refl
 
