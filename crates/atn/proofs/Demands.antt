@@ -1,60 +1,27 @@
 -- The demands, over the definitions: of every entry at once, since each is `enter` with its tests and its reading.
 use mathlib.Core.Path.{_≡_, refl, sym, ap, _∙_}
-use mathlib.Core.Bool.{Bool, true, false, not, _&&_}
-use mathlib.Core.Logic.{_⊎_, inl, inr}
-use mathlib.Core.List.{List, [], _∷_, _++_}
-use Prim.Native.Nat.{ℕ, _+_, _*_, _/_, _≤_, _<_, min}
+use mathlib.Core.Bool.{Bool, true, false}
+use mathlib.Core.Logic.{inl, inr}
+use mathlib.Core.List.{List, _∷_, _++_}
+use Prim.Native.Nat.{ℕ, _+_, _*_, _≤_, _<_}
 use native.Mathlib.Omega.{arith}
-use lib.ListN.{length, drop, take, getD, length-take}
+use lib.ListN.{length, drop, take, length-take}
 use lib.Seq.{getD-take}
 use lib.Dec.{leb}
 use borrow.Author.Tests.{leb-true, le-leb}
-use Rattle.x691.specs.Bits.{bitOf, Spells}
-use Rattle.x691.specs.Types.{Value}
+use Rattle.x691.specs.Bits.{bitOf}
 use Rattle.x691.specs.Encoding.{encode}
-use Rattle.x691.specs.Range.{InRange}
 use Rattle.x691.proofs.BitLaws.{bitOf-lt, bitOf-agree}
 use Rattle.atn.specs.Format.{Fmt, Why, out, bad, lack, quit, typeOf}
 use Rattle.atn.specs.Reading.{Rec, Ans, ok, past, stop, or, mark, read}
-use Rattle.atn.specs.Told.{tell}
-use Rattle.atn.specs.Entries.{Reply, accept, ranOut, badly, unsupplied, stopped, reply, readFrame, Answer, accepted, refused, Outcome, flat, need, settle, Test, test, decide, enter, frame-fits}
+use Rattle.atn.specs.Entries.{Reply, accept, ranOut, badly, unsupplied, stopped, reply, readFrame, accepted, refused, flat, need, settle, Test, test, enter, frame-fits}
+use Rattle.atn.specs.Demands.{passes, Agree, Message, Shares, Longer, CutOrOut, cut, ended, Enough, NoRoom}
 use Rattle.atn.proofs.Inverse.{both, nil-fst, mark-pos}
 use Rattle.atn.proofs.Complete.{complete}
-use Rattle.atn.proofs.Sound.{Found, FoundF, sound}
-use Rattle.atn.proofs.SameBits.{Agree, agree-le}
+use Rattle.atn.proofs.Sound.{FoundF, sound}
 use Rattle.atn.proofs.Readings.{replyReach, closed, Keeps, format-keeps}
-use Rattle.atn.proofs.Longer.{Longer, GoesOn}
-use Rattle.atn.proofs.Outcomes.{passes, early, Settled, NoRoom, Refused, settle-fits, settle-full, settle-refused, decide-go, decide-accepted, decide-kept, decide-refused}
-
----------------------------------------------------------------- what the demands speak of
-
--- the first p bits of the frame are the encoding of a message of the format's type, and R are that message's records
-pub record Message (f : Fmt) (s : List ℕ) (p : ℕ) (R : List Rec) : Type 0 where
-  pub val : Value (typeOf f)
-  pub inRange : InRange (typeOf f) val
-  pub spelt : Spells (bitOf s) 0 (encode (typeOf f) val)
-  pub long : p ≡ length (encode (typeOf f) val)
-  pub inside : p ≤ length s * 8
-  pub recs : R ≡ tell f val (0, 0) 0
-
--- the frame t, within the limit, shares the first p bits of the frame s, and the words v are no fewer than the words w
-pub record Shares (s t w v : List ℕ) (p : ℕ) : Type 0 where
-  pub limit : frame-fits t ≡ true
-  pub bits : Agree (bitOf s) (bitOf t) p
-  pub there : p ≤ length t * 8
-  pub room : length w ≤ length v
-
--- an answer that says that the frame ended: cut, or ran out
-pub data CutOrOut : Outcome → Type 0 where
-  cut : (p m k : ℕ) (w : List ℕ) → CutOrOut (accepted true p m k, w)
-  ended : (p l : ℕ) (w : List ℕ) → CutOrOut (refused 4 p 0 l, w)
-
--- the words hold the records, if the reading is accepted
-abbrev pub Enough : Reply → List ℕ → Type 0
-Enough (accept c p m R) w = need R ≤ length w
-Enough (ranOut p l) w = Unit {0}
-Enough (badly p) w = Unit {0}
-Enough (unsupplied p) w = Unit {0}
+use Rattle.atn.proofs.Longer.{GoesOn}
+use Rattle.atn.proofs.Outcomes.{early, Settled, Refused, settle-fits, settle-full, settle-refused, decide-go, decide-accepted, decide-kept, decide-refused}
 
 ---------------------------------------------------------------- clean answers are messages
 

@@ -1,41 +1,18 @@
 -- The demands of each entry, by its name.
 use mathlib.Core.Path.{_≡_, refl}
-use mathlib.Core.Bool.{Bool, true, false, _&&_}
-use mathlib.Core.List.{List, [], _∷_, _++_}
-use Prim.Native.Nat.{ℕ, zero, suc, _+_, _*_, _≤_, _<_}
-use lib.ListN.{length, drop, take}
+use mathlib.Core.Bool.{true}
+use mathlib.Core.List.{List, []}
+use Prim.Native.Nat.{ℕ, zero, suc}
 use Rattle.atn.specs.Format.{Fmt}
-use Rattle.atn.specs.Reading.{Rec}
 use Rattle.atn.specs.Messages.{aircraftPdus, groundPdus, acse}
-use Rattle.atn.specs.Entries.{Reply, accept, readFrame, orElse, Answer, accepted, refused, Outcome, flat, need, Test, enter, frame-fits, pdus, pdus-tests, apdu-tests, parse-pdus, parse-apdu, cmOf, cm-tests, parse-cm, parse-acse-apdu}
+use Rattle.atn.specs.Entries.{Reply, readFrame, orElse, Test, enter, pdus, pdus-tests, apdu-tests, parse-pdus, parse-apdu, cmOf, cm-tests, parse-cm, parse-acse-apdu}
+use Rattle.atn.specs.Demands.{Owes, ReadsClean}
 use Rattle.atn.proofs.Readings.{Keeps, format-keeps, both-keep}
 use Rattle.atn.proofs.Tame.{keepsStop, tame, tameFields, tameChoice}
 use Rattle.atn.proofs.Lacked.{frank}
-use Rattle.atn.proofs.Longer.{Longer, GoesOn, format-far, format-goes, both-goes}
-use Rattle.atn.proofs.Outcomes.{passes, early, NoRoom}
-use Rattle.atn.proofs.Demands.{Message, Shares, CutOrOut, Enough, whole-again, bad-again, cut-to, words-kept, words-left, room-refused, refused-room, reach-inside, refused-inside, lacked-none, lacked-some, longer-on, clean-sound, clean-complete}
-
--- an entry P of frame and words, which reads by F where all of the tests ts hold
-pub record Owes (ts : List Test) (F : List ℕ → Reply) (P : List ℕ → List ℕ → Outcome) : Type 0 where
-  pub whole : (s t w v : List ℕ) {p m k : ℕ} {w′ : List ℕ} → P s w ≡ (accepted false p m k, w′) → Shares s t w v p
-      → (R : List Rec) × (k ≡ length R) × (w′ ≡ flat R ++ drop (need R) w) × (P t v ≡ (accepted false p m k, flat R ++ drop (need R) v))
-  pub badlyFormed : (s t w v : List ℕ) {p k l : ℕ} {w′ : List ℕ} → P s w ≡ (refused 5 p k l, w′) → Shares s t w v p → P t v ≡ (refused 5 p k l, v)
-  pub cutShort : (s w v : List ℕ) (j : ℕ) {p m k : ℕ} {w′ : List ℕ} → P s w ≡ (accepted false p m k, w′) → j * 8 < p → Enough (F (take j s)) v → CutOrOut (P (take j s) v)
-  pub kept : (s w : List ℕ) → length (P s w .1) ≡ length w
-  pub left : (s w : List ℕ) {n p k l : ℕ} {w′ : List ℕ} → P s w ≡ (refused n p k l, w′) → w′ ≡ w
-  pub noRoom : (s w : List ℕ) {p k l : ℕ} {w′ : List ℕ} → P s w ≡ (refused 7 p k l, w′) → (frame-fits s ≡ true) × (passes ts ≡ true) × NoRoom (F s) w p k w′
-  pub noRoom⁻ : (s w : List ℕ) (c : Bool) (p m : ℕ) (R : List Rec) → frame-fits s ≡ true → passes ts ≡ true → F s ≡ accept c p m R → length w < need R → P s w ≡ (refused 7 p (need R) 0, w)
-  pub within : (s w : List ℕ) {c : Bool} {p m k : ℕ} {w′ : List ℕ} → P s w ≡ (accepted c p m k, w′) → p ≤ length s * 8
-  pub within⁻ : (s w : List ℕ) {n p k l : ℕ} {w′ : List ℕ} → P s w ≡ (refused n p k l, w′) → p ≤ length s * 8
-  -- the bits lacked: there are some exactly where it ran out, and a frame that is longer by as many reaches further
-  pub lackedNone : (s w : List ℕ) {n p k l : ℕ} {w′ : List ℕ} → P s w ≡ (refused n p k l, w′) → (n ≡ 4 → ⊥) → l ≡ 0
-  pub lackedSome : (s w : List ℕ) {p k l : ℕ} {w′ : List ℕ} → P s w ≡ (refused 4 p k l, w′) → 1 ≤ l
-  pub longer : (s t w v : List ℕ) {p k l q j i : ℕ} {w′ v′ : List ℕ} → P s w ≡ (refused 4 p k l, w′) → Longer s t l → P t v ≡ (refused 4 q j i, v′) → (length s * 8 + l ≤ q) × (p < q)
-
--- an entry P that reads by the format f: clean answers are messages, and messages are given clean answers
-pub record ReadsClean (ts : List Test) (f : Fmt) (P : List ℕ → List ℕ → Outcome) : Type 0 where
-  pub sound : (s w : List ℕ) {p k : ℕ} {w′ : List ℕ} → P s w ≡ (accepted false p 0 k, w′) → (R : List Rec) × Message f s p R × (k ≡ length R) × (w′ ≡ flat R ++ drop (need R) w)
-  pub complete : (s w : List ℕ) (p : ℕ) (R : List Rec) → frame-fits s ≡ true → passes ts ≡ true → Message f s p R → need R ≤ length w → P s w ≡ (accepted false p 0 (length R), flat R ++ drop (need R) w)
+use Rattle.atn.proofs.Longer.{GoesOn, format-far, format-goes, both-goes}
+use Rattle.atn.proofs.Outcomes.{early}
+use Rattle.atn.proofs.Demands.{whole-again, bad-again, cut-to, words-kept, words-left, room-refused, refused-room, reach-inside, refused-inside, lacked-none, lacked-some, longer-on, clean-sound, clean-complete}
 
 owes : (ts : List Test) (F : List ℕ → Reply) → Keeps F → GoesOn F → early ts ≡ true → Owes ts F (λ s w. enter ts F s w)
 owes ts F k g₀ e =

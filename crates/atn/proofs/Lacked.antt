@@ -12,10 +12,11 @@ use Rattle.x691.specs.Encoding.{width, highest}
 use Rattle.atn.specs.Format.{Fmt, num, listed, name, text, span, anySpan, skipped, small, null, noted, placed, marked, refuse, element, ext, seq, loose, choice, many, inner, soft, lax}
 use Rattle.atn.specs.Format.{Flds, end, _⨾_, _⨾?_, orNote, unread, Alts, none-left, _∥_, alternativesOf, Why, out, bad, lack, quit}
 use Rattle.atn.specs.Reading.{Rec, rec, word, Ctx, Ans, ok, past, stop, glue, tardy, late, then, times, fork, guard, unless, over, fetch, pull, sized, letters, units, short, long, fragment, lengths, lengthThen, flags, unreadMarks, within, close, shut, softly, passOver, laxly, giveUp, read, readFields, readChoice}
+use Rattle.atn.specs.Demands.{Agree}
 use Rattle.atn.proofs.Steps.{fetch-go, fetch-no, pull-go, pull-no}
 use Rattle.atn.proofs.Inverse.{both}
 use Rattle.atn.proofs.Reach.{reach, isOpen, split, glue-is, late-is, soft-is, lax-is, close-is, mono-pull, mono-then, mono-times, mono-fork, mono-guard, Rises, mono-sized, mono-letters, mono-short, mono-long, mono-fragment, mono-lengths, mono-length, mono, monoFields, monoChoice, in-window}
-use Rattle.atn.proofs.SameBits.{Agree, agree-le, same-bits}
+use Rattle.atn.proofs.SameBits.{agree-le, same-bits}
 use Rattle.atn.proofs.Stable.{stable}
 use Rattle.atn.proofs.Tame.{Kind, keepsStop, tame, tameFields, tameChoice}
 

@@ -1,24 +1,19 @@
 -- What a reading of frames owes where it ran out: it lacked some bits, and of a frame that begins as this one and is longer by at least so many bits it is not said that it ran out before them. Proved of each format, and of `parse_apdu`'s combination of two readings.
-use mathlib.Core.Path.{_≡_, refl, sym, ap, _∙_}
-use mathlib.Core.Bool.{Bool, true, false}
+use mathlib.Core.Path.{_≡_, refl, ap}
+use mathlib.Core.Bool.{Bool, true}
 use mathlib.Core.Logic.{_⊎_, inl, inr}
 use mathlib.Core.List.{List}
-use Prim.Native.Nat.{ℕ, _+_, _*_, _≤_, _<_, max, min}
+use Prim.Native.Nat.{ℕ, _+_, _*_, _≤_, min}
 use native.Mathlib.Omega.{arith}
 use lib.ListN.{length}
 use Rattle.x691.specs.Bits.{bitOf}
-use Rattle.atn.specs.Format.{Fmt, Why, out, bad, lack, quit}
+use Rattle.atn.specs.Format.{Fmt, out, bad, lack, quit}
 use Rattle.atn.specs.Reading.{Rec, Ans, ok, past, stop, read}
 use Rattle.atn.specs.Entries.{Reply, accept, ranOut, badly, unsupplied, stopped, reply, readFrame, afterOut, afterBad, orElse}
-use Rattle.atn.proofs.Reach.{reach, split}
-use Rattle.atn.proofs.SameBits.{Agree}
+use Rattle.atn.specs.Demands.{Longer}
+use Rattle.atn.proofs.Reach.{split}
 use Rattle.atn.proofs.Readings.{replyReach, reply-is, out-is, bad-is}
 use Rattle.atn.proofs.Lacked.{frank, Lacks, Further, longer}
-
--- the frame t begins with the bits of the frame s, and is longer by at least k bits
-pub record Longer (s t : List ℕ) (k : ℕ) : Type 0 where
-  pub bits : Agree (bitOf s) (bitOf t) (length s * 8)
-  pub more : length s * 8 + k ≤ length t * 8
 
 -- of any reply to the longer frame: the bits that were lacked have been taken
 pub record GoesFar (F : List ℕ → Reply) : Type 0 where

@@ -1,23 +1,19 @@
 -- From an entry's outcome back to its tests and its reading, and forth.
 use mathlib.Core.Path.{_≡_, refl, sym, ap, _∙_}
-use mathlib.Core.Bool.{Bool, true, false, cond, _&&_}
+use mathlib.Core.Bool.{Bool, true, false, _&&_}
 use mathlib.Core.Logic.{_⊎_, inl, inr}
 use mathlib.Core.List.{List, [], _∷_, _++_}
-use Prim.Native.Nat.{ℕ, _+_, _*_, _≤_, _<_}
+use Prim.Native.Nat.{ℕ, _+_, _≤_, _<_}
 use native.Mathlib.Omega.{arith}
 use lib.ListN.{length, drop, length-append, length-drop}
 use lib.Dec.{leb}
 use borrow.Author.Tests.{leb-true, le-leb, lt-leb}
 use Rattle.atn.specs.Reading.{Rec, rec}
-use Rattle.atn.specs.Entries.{Reply, accept, ranOut, badly, unsupplied, Answer, accepted, refused, Outcome, flat, need, settle, Test, test, decide, enter, frame-fits}
+use Rattle.atn.specs.Entries.{Reply, accept, ranOut, badly, unsupplied, accepted, refused, Outcome, flat, need, settle, Test, test, decide}
+use Rattle.atn.specs.Demands.{passes, NoRoom}
 use Rattle.atn.proofs.Inverse.{both}
 use Rattle.atn.proofs.Reach.{split}
 use Rattle.atn.proofs.Readings.{replyReach}
-
--- all tests hold
-unfoldable pub passes : List Test → Bool
-passes [] = true
-passes (test t n ∷ ts) = t && passes ts
 
 -- the tests refuse with document 01's first three numbers
 unfoldable pub early : List Test → Bool
@@ -31,16 +27,6 @@ pub record Settled (r : Reply) (w : List ℕ) (c : Bool) (p m k : ℕ) (w′ : L
   pub counted : k ≡ length recs
   pub fits : need recs ≤ length w
   pub words : w′ ≡ flat recs ++ drop (need recs) w
-
--- an accepted reading whose records do not fit
-pub record NoRoom (r : Reply) (w : List ℕ) (p k : ℕ) (w′ : List ℕ) : Type 0 where
-  pub cut : Bool
-  pub marks : ℕ
-  pub recs : List Rec
-  pub replied : r ≡ accept cut p marks recs
-  pub needs : k ≡ need recs
-  pub full : length w < need recs
-  pub words : w′ ≡ w
 
 pub answers-differ : {A : Type 0} {c : Bool} {p m k n q l j : ℕ} {w v : List ℕ} → _≡_ {A = Outcome} (accepted c p m k, w) (refused n q l j, v) → A
 answers-differ h = let x = ap (λ (o : Outcome). o .0) h in let z : _≡_ {A = ℕ} 0 1 = cc in absurd (omega arith)

@@ -9,8 +9,9 @@ use Rattle.x691.specs.Bits.{bitOf}
 use Rattle.atn.specs.Format.{Fmt, Why, out, bad, lack, quit}
 use Rattle.atn.specs.Reading.{Rec, Ans, ok, past, stop, or, mark, read}
 use Rattle.atn.specs.Entries.{Reply, accept, ranOut, badly, unsupplied, stopped, reply, readFrame, afterOut, afterBad, orElse}
+use Rattle.atn.specs.Demands.{Agree}
 use Rattle.atn.proofs.Reach.{reach, opens, isOpen, split, in-window}
-use Rattle.atn.proofs.SameBits.{Agree, agree-le}
+use Rattle.atn.proofs.SameBits.{agree-le}
 use Rattle.atn.proofs.Stable.{stable, cut-short}
 
 unfoldable pub replyReach : Reply → ℕ

@@ -13,12 +13,9 @@ use Rattle.x691.proofs.BitLaws.{uint-agree}
 use Rattle.atn.specs.Format.{Fmt, num, listed, name, text, span, anySpan, skipped, small, null, noted, placed, marked, refuse, element, ext, seq, loose, choice, many, inner, soft, lax}
 use Rattle.atn.specs.Format.{Flds, end, _⨾_, _⨾?_, orNote, unread, Alts, none-left, _∥_, out}
 use Rattle.atn.specs.Reading.{Rec, Ctx, Ans, ok, stop, glue, late, then, times, fork, guard, unless, over, fetch, pull, sized, letters, units, lettered, short, long, fragment, lengths, lengthThen, flags, unreadMarks, within, close, softly, laxly, read, readFields, readChoice}
+use Rattle.atn.specs.Demands.{Agree}
 use Rattle.atn.proofs.Steps.{fetch-go, fetch-no}
 use Rattle.atn.proofs.Reach.{split}
-
--- the two agree below p
-abbrev pub Agree : (ℕ → ℕ) → (ℕ → ℕ) → ℕ → Type 0
-Agree b c p = (i : ℕ) → i < p → b i ≡ c i
 
 pub agree-le : {b c : ℕ → ℕ} {p q : ℕ} → Agree b c p → q ≤ p → Agree b c q
 agree-le h l i x = h i (omega arith)

@@ -12,9 +12,10 @@ use Rattle.x691.specs.Encoding.{width, highest}
 use Rattle.atn.specs.Format.{Fmt, num, listed, name, text, span, anySpan, skipped, small, null, noted, placed, marked, refuse, element, ext, seq, loose, choice, many, inner, soft, lax}
 use Rattle.atn.specs.Format.{Flds, end, _⨾_, _⨾?_, orNote, unread, Alts, none-left, _∥_, alternativesOf, out}
 use Rattle.atn.specs.Reading.{Rec, rec, word, Ctx, Ans, ok, past, stop, glue, then, times, fork, guard, unless, fetch, pull, sized, letters, units, lettered, short, long, fragment, lengths, lengthThen, flags, unreadMarks, close, softly, laxly, read, readFields, readChoice}
+use Rattle.atn.specs.Demands.{Agree}
 use Rattle.atn.proofs.Steps.{fetch-go, fetch-no}
 use Rattle.atn.proofs.Reach.{reach, opens, isOpen, split, glue-is, late-is, soft-is, lax-is, close-is, mono-pull, mono-then, mono-times, mono-fork, mono-guard, Rises, mono-sized, mono-letters, mono-short, mono-long, mono-fragment, mono-lengths, mono-length, mono, monoFields, monoChoice}
-use Rattle.atn.proofs.SameBits.{Agree, agree-le, same-bits, same-units, same-unread, same}
+use Rattle.atn.proofs.SameBits.{agree-le, same-bits, same-units, same-unread, same}
 
 -- y is what becomes of the answer x when the bits are c's and the window ends at u
 pub record Becomes (b c : ℕ → ℕ) (u : ℕ) (x y : Ans) : Type 0 where

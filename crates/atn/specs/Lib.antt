@@ -6,4 +6,5 @@ pub mod Schema
 pub mod Tags
 pub mod Messages
 pub mod Entries
+pub mod Demands
 pub mod Worked

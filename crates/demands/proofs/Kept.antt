@@ -1,16 +1,15 @@
 -- One lemma over the contracts' shape: what an entry's outcome owes, its answers promise.
 use mathlib.Core.Path.{_≡_, refl, sym, ap, _∙_}
 use mathlib.Core.Bool.{Bool, true, false}
-use mathlib.Core.List.{List, _++_}
-use Prim.Native.Nat.{ℕ, _*_, _<_}
+use mathlib.Core.List.{List}
+use Prim.Native.Nat.{ℕ}
 use native.Mathlib.Omega.{arith}
-use lib.ListN.{length, take}
+use lib.ListN.{take}
 use Rattle.atn.specs.Reading.{Rec}
 use Rattle.atn.specs.Places.{Rising}
 use Rattle.atn.specs.Entries.{Reply, accept, ranOut, badly, unsupplied, Outcome, accepted, refused, Test}
 use Rattle.atn.specs.Entries as entries
-use Rattle.atn.proofs.Demands.{Shares, CutOrOut, cut, ended, Enough}
-use Rattle.atn.proofs.Each.{Owes}
+use Rattle.atn.specs.Demands.{Shares, CutOrOut, cut, ended, Enough, Owes}
 use Rattle.atn.proofs.Outcomes.{Settled}
 use Rattle.answers.specs.declared.Answer.{Answer}
 use Rattle.answers.specs.declared.Answer.the-variants.{Accepted, Refused}

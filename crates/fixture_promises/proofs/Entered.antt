@@ -9,7 +9,8 @@ use Rattle.atn.specs.Format.{Fmt}
 use Rattle.atn.specs.Reading.{Rec}
 use Rattle.atn.specs.Messages.{acse}
 use Rattle.atn.specs.Entries.{Reply, accept, readFrame, accepted, Outcome, flat, need, Test, test, enter, frame-fits, pdus, pdus-tests, cmOf, cm-tests, parse-pdus, parse-cm, parse-acse-apdu}
-use Rattle.atn.proofs.Outcomes.{passes, settle-fits, decide-go}
+use Rattle.atn.specs.Demands.{passes}
+use Rattle.atn.proofs.Outcomes.{settle-fits, decide-go}
 use Rattle.record_lists.specs.Kinds.{kindOf}
 use Rattle.record_lists.specs.Message.{bytesOf}
 use Rattle.record_lists.specs.Most.{most}

@@ -18,7 +18,8 @@ use Rattle.atn.specs.Entries.{accept, readFrame, flat, need}
 use Rattle.atn.specs.Messages.{groundPdus, forward}
 use Rattle.atn.specs.Reading.{Rec, rec, ok, octets, packs, pack, flags, unreadMarks, read, readFields, readChoice}
 use Rattle.atn.specs.Told.{tell, tellFields}
-use Rattle.atn.proofs.Demands.{Message, clean-message}
+use Rattle.atn.specs.Demands.{Message}
+use Rattle.atn.proofs.Demands.{clean-message}
 use Rattle.atn.proofs.Complete.{complete}
 use Rattle.atn.proofs.Inverse.{then-inv, then-ok, pull-inv, fetch-inv, fork-inv, soft-inv, never, never-after}
 use Rattle.atn.proofs.Sound.{FoundF, sound}

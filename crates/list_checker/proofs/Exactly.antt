@@ -8,8 +8,9 @@ use lib.ListN.{length, take, drop}
 use Rattle.atn.specs.Format.{Fmt}
 use Rattle.atn.specs.Reading.{Rec}
 use Rattle.atn.specs.Entries.{Reply, accept, ranOut, badly, unsupplied, readFrame, accepted, flat, need, settle, Test, test}
-use Rattle.atn.proofs.Demands.{Message, clean-message, message-clean}
-use Rattle.atn.proofs.Outcomes.{passes, settle-fits, decide-go}
+use Rattle.atn.specs.Demands.{passes, Message}
+use Rattle.atn.proofs.Demands.{clean-message, message-clean}
+use Rattle.atn.proofs.Outcomes.{settle-fits, decide-go}
 use Rattle.records.proofs.Sizes.{flat-need}
 use Rattle.list_comparison.specs.declared.Checked.the-variants.{Yes}
 use Rattle.list_comparison.proofs.YesLaws.{same-yes, yes-same}

@@ -13,7 +13,7 @@ use Rattle.x691.proofs.BitLaws.{bitOf-agree}
 use Rattle.atn.specs.Format.{Fmt, typeOf}
 use Rattle.atn.specs.Reading.{Rec}
 use Rattle.atn.specs.Entries.{Reply, accept, ranOut, badly, unsupplied, readFrame, pdus, cmOf}
-use Rattle.atn.proofs.SameBits.{Agree}
+use Rattle.atn.specs.Demands.{Agree}
 use Rattle.atn.proofs.Readings.{replyReach, closed, format-keeps}
 use Rattle.atn.proofs.Demands.{clean-message}
 use Rattle.message_runs.specs.declared.Kind.{Kind}

@@ -14,7 +14,7 @@ use Rattle.atn.specs.Format.{Fmt, typeOf}
 use Rattle.atn.specs.Messages.{acse}
 use Rattle.atn.specs.Reading.{Rec}
 use Rattle.atn.specs.Entries.{accept, readFrame, Test, Outcome, enter, pdus, pdus-tests, cmOf, cm-tests, parse-pdus, parse-cm, parse-acse-apdu}
-use Rattle.atn.proofs.SameBits.{Agree}
+use Rattle.atn.specs.Demands.{Agree}
 use Rattle.atn.proofs.Demands.{clean-sound}
 use Rattle.message_runs.specs.Runs.{cleanReach}
 use Rattle.message_runs.specs.Begins.{CleanBits, Begins}

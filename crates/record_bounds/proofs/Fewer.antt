@@ -16,7 +16,8 @@ use Rattle.atn.specs.Format.{Flds, end, _⨾_, _⨾?_, orNote, unread, Alts, no
 use Rattle.atn.specs.Reading.{Rec, rec, Ctx, packs, pack, coded, spaced, noneAbove, lettered, spanned}
 use Rattle.atn.specs.Told.{tell, tellFields, tellPick, tellAny, tellAll}
 use Rattle.atn.specs.Entries.{accept, readFrame}
-use Rattle.atn.proofs.Demands.{Message, clean-message}
+use Rattle.atn.specs.Demands.{Message}
+use Rattle.atn.proofs.Demands.{clean-message}
 use Rattle.atn.proofs.Texts.{length-coded, length-spaced}
 use Rattle.record_bounds.specs.Most.{texts, most, mostFields, mostAlts}
 

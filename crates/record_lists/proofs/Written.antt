@@ -14,7 +14,8 @@ use Rattle.atn.specs.Format.{Fmt, typeOf}
 use Rattle.atn.specs.Reading.{Rec, rec}
 use Rattle.atn.specs.Told.{tell}
 use Rattle.atn.specs.Entries.{accept, readFrame}
-use Rattle.atn.proofs.Demands.{Message, message-clean}
+use Rattle.atn.specs.Demands.{Message}
+use Rattle.atn.proofs.Demands.{message-clean}
 use Rattle.record_lists.specs.Items.{Item, look, inside, unplaced}
 use Rattle.record_lists.specs.Shown.{shown}
 use Rattle.record_lists.specs.Clear.{clear}

@@ -15,8 +15,8 @@ use Rattle.atn.specs.Reading.{Ctx, Ans, mark, read, readChoice, flags, unreadMa
 use Rattle.atn.specs.Messages.{speedType, code, frequency, numericString, arguments, noReader}
 use Rattle.atn.specs.Entries.{Reply, reply, readFrame, Outcome, enter, decide, test, Test, frame-fits}
 use Rattle.atn.specs.Tags as tag
+use Rattle.atn.specs.Demands.{passes}
 use Rattle.atn.proofs.Inverse.{both}
-use Rattle.atn.proofs.Outcomes.{passes}
 use Rattle.schema_tables.specs.Nodes.{nodes, nodeWord, memberOf, membersFrom, alternativesFrom, formatOf, formatAt, meaning}
 use Rattle.schema_tables.specs.Tests.{below, each, raised, range-fits, kind-fits, node-fits, kinds-fit, firstOf, countOf, firstAt, countAt, link-fits, links-fit, within, depth-fits}
 use Rattle.schema_tables.specs.Entry.{table-tests, capped, parse-by-table}

@@ -5,7 +5,7 @@ use mathlib.Core.List.{List, [], _∷_}
 use Prim.Native.Nat.{ℕ, min}
 use native.Mathlib.Omega.{arith}
 use Rattle.atn.specs.Entries.{Reply, Answer, accepted, refused, Outcome, Test, test, decide, enter, readFrame, frame-fits}
-use Rattle.atn.proofs.Outcomes.{passes}
+use Rattle.atn.specs.Demands.{passes}
 use Rattle.schema_tables.specs.Nodes.{meaning}
 use Rattle.schema_tables.specs.Tests.{kinds-fit, links-fit, depth-fits}
 use Rattle.schema_tables.specs.Entry.{table-tests, top, cappedAnswer, capped, parse-by-table}

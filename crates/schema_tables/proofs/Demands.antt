@@ -8,10 +8,11 @@ use lib.ListN.{length, drop, take}
 use Rattle.atn.specs.Reading.{Rec}
 use Rattle.atn.specs.Places.{Rising}
 use Rattle.atn.specs.Entries.{Reply, accept, readFrame, Answer, accepted, refused, Outcome, flat, need, enter, frame-fits}
+use Rattle.atn.specs.Demands.{passes, Message, Shares, CutOrOut, cut, ended, Enough, NoRoom}
 use Rattle.atn.proofs.Readings.{Keeps, format-keeps}
-use Rattle.atn.proofs.Outcomes.{passes, early, NoRoom}
+use Rattle.atn.proofs.Outcomes.{early}
 use Rattle.atn.proofs.Places.{frame-rising}
-use Rattle.atn.proofs.Demands.{taken, Message, Shares, CutOrOut, cut, ended, Enough, whole-again, bad-again, cut-to, words-kept, words-left, room-refused, refused-room, reach-inside, refused-inside, clean-sound, clean-complete}
+use Rattle.atn.proofs.Demands.{taken, whole-again, bad-again, cut-to, words-kept, words-left, room-refused, refused-room, reach-inside, refused-inside, clean-sound, clean-complete}
 use Rattle.schema_tables.specs.Nodes.{meaning}
 use Rattle.schema_tables.specs.Entry.{top, capped, cappedAnswer, parse-by-table}
 use Rattle.schema_tables.proofs.Capped.{Kept, kept-reads, cap-accepted, cap-refused, cap-words, cap-same, cap-need}
