@@ -4,17 +4,16 @@ use mathlib.Core.Bool.{Bool, true, false}
 use mathlib.Core.List.{List}
 use Prim.Native.Nat.{ℕ}
 use native.Mathlib.Omega.{arith}
-use lib.ListN.{take}
 use Rattle.atn.specs.Reading.{Rec}
 use Rattle.atn.specs.Places.{Rising}
-use Rattle.atn.specs.Entries.{Reply, accept, ranOut, badly, unsupplied, Outcome, accepted, refused, Test}
+use Rattle.atn.specs.Entries.{Reply, accept, Outcome, accepted, refused, Test}
 use Rattle.atn.specs.Entries as entries
-use Rattle.atn.specs.Demands.{Shares, CutOrOut, cut, ended, Enough, Owes}
+use Rattle.atn.specs.Demands.{CutOrOut, cut, ended, Owes}
 use Rattle.atn.proofs.Outcomes.{Settled}
 use Rattle.answers.specs.declared.Answer.{Answer}
 use Rattle.answers.specs.declared.Answer.the-variants.{Accepted, Refused}
 use Rattle.answers.specs.Says.{answerOf, Says}
-use Rattle.demands.specs.Promises.{Alike, Ended, RoomFor, Promises}
+use Rattle.demands.specs.Promises.{Ended, Promises}
 
 -- an answer is known by its number and values
 unfoldable kind : entries.Answer → ℕ
@@ -31,15 +30,6 @@ answers-same (Refused n p k i) (Refused m o l j) e = cc
 pub says-is : {r q : Answer} {w v : List ℕ} {o : Outcome} → Says r w o → o ≡ (answerOf q, v) → (r ≡ q) × (w ≡ v)
 says-is {r} {q} x e = let y = x .is ∙ e in (answers-same r q (ap (λ (o : Outcome). o .0) y), ap (λ (o : Outcome). o .1) y)
 
-shares : {s t w v : List ℕ} {p : ℕ} → Alike s t w v p → Shares s t w v p
-shares x = record { limit = x .limit; bits = x .bits; there = x .there; room = x .room }
-
-enough : (r : Reply) (w : List ℕ) → RoomFor r w → Enough r w
-enough (accept c p m R) w h = h
-enough (ranOut p lacked) w h = h
-enough (badly p) w h = h
-enough (unsupplied p) w h = h
-
 ends : {r : Answer} {w : List ℕ} {o : Outcome} → Says r w o → CutOrOut o → Ended r
 ends {r} x (cut p m k w) = let e : r ≡ Accepted true p m k = says-is x refl .0 in rw e refl
 ends {r} x (ended p l w) = let e : r ≡ Refused 4 p 0 l = says-is x refl .0 in rw e refl
@@ -55,11 +45,11 @@ promises F P o u =
       one = λ s w {r} {q} x y. says-is {r = r} {q = q} x (sym (y .is));
       left = λ s w x. o .left s w (sym (x .is));
       whole = λ s t w v {p} {m} {k} {r} x a y.
-          let h = o .whole s t w v (sym (x .is)) (shares a) in
+          let h = o .whole s t w v (sym (x .is)) a in
           let e = says-is {r = r} {q = Accepted false p m k} y (h .3) in
           (e .0, (h .0, h .1, h .2, e .1));
-      badlyFormed = λ s t w v {p} {k} {l} {r} x a y. says-is {r = r} {q = Refused 5 p k l} y (o .badlyFormed s t w v (sym (x .is)) (shares a));
-      cutShort = λ s w v j x l h y. ends y (o .cutShort s w v j (sym (x .is)) l (enough (F (take j s)) v h));
+      badlyFormed = λ s t w v {p} {k} {l} {r} x a y. says-is {r = r} {q = Refused 5 p k l} y (o .badlyFormed s t w v (sym (x .is)) a);
+      cutShort = λ s w v j x l h y. ends y (o .cutShort s w v j (sym (x .is)) l h);
       noRoom = λ s w x.
           let h = o .noRoom s w (sym (x .is)) in
           let n = h .2 in
@@ -67,7 +57,7 @@ promises F P o u =
       within = λ s w x. o .within s w (sym (x .is));
       lackedNone = λ s w x n. o .lackedNone s w (sym (x .is)) n;
       lackedSome = λ s w x. o .lackedSome s w (sym (x .is));
-      longer = λ s t w v x a y. o .longer s t w v (sym (x .is)) (record { bits = a .bits; more = a .more }) (sym (y .is));
+      longer = λ s t w v x a y. o .longer s t w v (sym (x .is)) a (sym (y .is));
       rising = λ s w x.
           let y = u .told s w (sym (x .is)) in
           (y .recs, y .counted, y .words, u .rises s (y .replied));
