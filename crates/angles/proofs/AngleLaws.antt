@@ -15,6 +15,7 @@ use Rattle.cursor.specs.declared.place.Cursor.{Cursor}
 use Rattle.cursor.specs.declared.place.Got.{Got}
 use Rattle.cursor.specs.Place.{stopped, Pulls, Opens, Takes}
 use Rattle.cursor.specs.Formats.{Maybe}
+use Rattle.field_ranges.specs.Rows as rows
 use Rattle.field_ranges.specs.Ends.{lowest, highest}
 use Rattle.ranged_numbers.specs.Numbers.{Ranged}
 use Rattle.cursor.proofs.Laws.{stopped-stops}
@@ -30,8 +31,8 @@ module _ (t k j : ℕ) where
   abbrev alts : Alts
   alts =
       num (t + 1) (lowest k) (highest k)
-      ∥ seq (num (t + 2) (lowest j) (highest j) ⨾ num (t + 3) (lowest 9) (highest 9) ⨾ end)
-      ∥ seq (num (t + 2) (lowest j) (highest j) ⨾ num (t + 4) (lowest 5) (highest 5) ⨾ num (t + 5) (lowest 5) (highest 5) ⨾ end)
+      ∥ seq (num (t + 2) (lowest j) (highest j) ⨾ num (t + 3) (lowest rows.hundredths) (highest rows.hundredths) ⨾ end)
+      ∥ seq (num (t + 2) (lowest j) (highest j) ⨾ num (t + 4) (lowest rows.minutes) (highest rows.minutes) ⨾ num (t + 5) (lowest rows.minutes) (highest rows.minutes) ⨾ end)
       ∥ none-left
 
 -- a form by its index; where the reading went on, each number stands behind the bits of those before
@@ -47,7 +48,7 @@ module _ {k j : ℕ} {s : List ℕ} {c : Cursor} (g : Got) (p : Pulls s c 2 g) w
           ends = along-place (number-along k index h) fits;
         }
 
-    pub form-one : g .v ≡ 1 → (a : Got) → Ranged j s (g .c) a → (b : Got) → Ranged 9 s (a .c) b → Forms k j s c (record { form = record { form = 1; first = a .v; second = b .v; third = 0 }; c = b .c })
+    pub form-one : g .v ≡ 1 → (a : Got) → Ranged j s (g .c) a → (b : Got) → Ranged rows.hundredths s (a .c) b → Forms k j s c (record { form = record { form = 1; first = a .v; second = b .v; third = 0 }; c = b .c })
     unfolding readChoice flags allRead lowest highest extent width widthIn encoding.highest count
     form-one z a h b m =
         let index = pull-along p in
@@ -59,7 +60,7 @@ module _ {k j : ℕ} {s : List ℕ} {c : Cursor} (g : Got) (p : Pulls s c 2 g) w
           ends = along-place (number-along 9 degrees m) fits;
         }
 
-    pub form-two : g .v ≡ 2 → (a : Got) → Ranged j s (g .c) a → (b : Got) → Ranged 5 s (a .c) b → (e : Got) → Ranged 5 s (b .c) e
+    pub form-two : g .v ≡ 2 → (a : Got) → Ranged j s (g .c) a → (b : Got) → Ranged rows.minutes s (a .c) b → (e : Got) → Ranged rows.minutes s (b .c) e
         → Forms k j s c (record { form = record { form = 2; first = a .v; second = b .v; third = e .v }; c = e .c })
     unfolding readChoice flags allRead lowest highest extent width widthIn encoding.highest count
     form-two z a h b m e l =
@@ -89,7 +90,7 @@ module _ {k j : ℕ} {s : List ℕ} {c : Cursor} (g : Got) (p : Pulls s c 2 g) w
       go t (suc (suc (suc v))) x u r y₀ y₁ y₂ = refl
 
 -- the form, and the side behind it
-pub form-side : {k j : ℕ} {s : List ℕ} {c : Cursor} {f : FormAt} {g : Got} → Forms k j s c f → Ranged 0 s (f .c) g → Angles k j s c (record { angle = record { at = c .at; form = f .form; side = g .v }; c = g .c })
+pub form-side : {k j : ℕ} {s : List ℕ} {c : Cursor} {f : FormAt} {g : Got} → Forms k j s c f → Ranged rows.side s (f .c) g → Angles k j s c (record { angle = record { at = c .at; form = f .form; side = g .v }; c = g .c })
 unfolding flags allRead angleRecs
 form-side {k} {j} {s} {c} {f} {g} h r =
     record {

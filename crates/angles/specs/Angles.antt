@@ -10,6 +10,7 @@ use Rattle.atn.specs.Messages as message
 use Rattle.cursor.specs.declared.place.Cursor.{Cursor}
 use Rattle.cursor.specs.Place.{Inside, Takes}
 use Rattle.cursor.specs.Formats.{Maybe}
+use Rattle.field_ranges.specs.Rows as rows
 use Rattle.field_ranges.specs.Ends.{lowest, highest}
 use Rattle.angles.specs.declared.Form.{Form}
 use Rattle.angles.specs.declared.FormAt.{FormAt}
@@ -27,12 +28,12 @@ abbrev pub form : ℕ → ℕ → ℕ → Fmt
 form t k j =
     choice t
     (num (t + 1) (lowest k) (highest k)
-    ∥ seq (num (t + 2) (lowest j) (highest j) ⨾ num (t + 3) (lowest 9) (highest 9) ⨾ end)
-    ∥ seq (num (t + 2) (lowest j) (highest j) ⨾ num (t + 4) (lowest 5) (highest 5) ⨾ num (t + 5) (lowest 5) (highest 5) ⨾ end)
+    ∥ seq (num (t + 2) (lowest j) (highest j) ⨾ num (t + 3) (lowest rows.hundredths) (highest rows.hundredths) ⨾ end)
+    ∥ seq (num (t + 2) (lowest j) (highest j) ⨾ num (t + 4) (lowest rows.minutes) (highest rows.minutes) ⨾ num (t + 5) (lowest rows.minutes) (highest rows.minutes) ⨾ end)
     ∥ none-left)
 
 abbrev pub angle : ℕ → ℕ → ℕ → Fmt
-angle t k j = seq (form t k j ⨾ num (t + 6) (lowest 0) (highest 0) ⨾ end)
+angle t k j = seq (form t k j ⨾ num (t + 6) (lowest rows.side) (highest rows.side) ⨾ end)
 
 -- the bits of a number of the row k
 abbrev pub bits : ℕ → ℕ

@@ -18,6 +18,7 @@ use Rattle.cursor.specs.declared.place.Cursor.{Cursor}
 use Rattle.cursor.specs.declared.place.Got.{Got}
 use Rattle.cursor.specs.Place.{number, marked, Inside, Pulls, Led, Reads}
 use Rattle.cursor.specs.Place as place
+use Rattle.field_ranges.specs.Rows as rows
 use Rattle.field_ranges.specs.Ends.{lowest, highest}
 use Rattle.character_strings.specs.Texts.{Sized}
 use Rattle.cursor.proofs.Laws.{led-inside, pulled-inside, reads-ok, marked-nil}
@@ -175,7 +176,7 @@ module _ {s : List ℕ} {c : Cursor} (g : Got) (x : Pulls s c 1 g) where
     pub counts-absent : h .v ≡ 0 → Counts s c (record { v = 0; c = h .c })
     counts-absent n = record { then = λ K o. rooted K (runs-clear (λ e p. K 0 e p) _ (h .v) n o); few = omega arith; inside = in-root }
 
-    module _ (n : h .v ≡ 0 → ⊥) {m : Got} (t : Sized 55 s (h .c) m) where
+    module _ (n : h .v ≡ 0 → ⊥) {m : Got} (t : Sized rows.clearances s (h .c) m) where
       counted : (v : ℕ) → v ≤ 2 → (Inside s (h .c) → h .c .why ≡ 0 → m .c .why ≡ 0 → v ≡ m .v) → Counts s c (record { v = v; c = m .c })
       unfolding lowest highest
       counted v l q =

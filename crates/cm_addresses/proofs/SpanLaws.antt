@@ -12,6 +12,7 @@ use Rattle.cursor.specs.declared.place.Cursor.{Cursor}
 use Rattle.cursor.specs.declared.place.Got.{Got}
 use Rattle.cursor.specs.Place.{Inside, Takes}
 use Rattle.length_determinants.specs.Lengths.{Passes}
+use Rattle.field_ranges.specs.Rows as rows
 use Rattle.field_ranges.specs.Ends.{lowest, highest}
 use Rattle.character_strings.specs.Texts.{Sized}
 use Rattle.cursor.proofs.Laws.{reads-same}
@@ -55,7 +56,7 @@ module _ {t k : ℕ} {s : List ℕ} {c d : Cursor} {T : ℕ → List Rec} where
           sym (sized-go (bitOf s) (c .end) (c .at) k k k (octets x) (omega arith) (omega arith) (rw w tt) (omega (arith, i .0)) ∙ ap (λ (q : ℕ). octets x k q) (omega arith))
 
 -- the row of the selectors' sizes
-pub span-selectors : {t : ℕ} {s : List ℕ} {c d : Cursor} {T : ℕ → List Rec} (g : Got) → Sized 53 s c g → Octets t (c .at) (g .v) s (g .c) d T → Takes (span t 8 10 11) s c d T
+pub span-selectors : {t : ℕ} {s : List ℕ} {c d : Cursor} {T : ℕ → List Rec} (g : Got) → Sized rows.selector-size s c g → Octets t (c .at) (g .v) s (g .c) d T → Takes (span t 8 10 11) s c d T
 unfolding read lowest highest
 span-selectors {t} {s} {c} g z h = record { took = λ x. reads-same (λ e p. sized (bitOf s) e p 10 11 (λ k q. octets x k e q)) (λ e p. read (span t 8 10 11) x (bitOf s) e p) refl (z .size (octets x) (h .took x)) }
   where

@@ -12,6 +12,7 @@ use Rattle.cursor.specs.declared.place.Cursor.{Cursor}
 use Rattle.cursor.specs.declared.place.Got.{Got}
 use Rattle.cursor.specs.Place.{stopped, Takes}
 use Rattle.cursor.specs.Formats.{Times}
+use Rattle.field_ranges.specs.Rows as rows
 use Rattle.field_ranges.specs.Ends.{lowest, highest}
 use Rattle.character_strings.specs.Texts.{Sized}
 use Rattle.ranged_numbers.specs.Numbers.{Ranged}
@@ -26,7 +27,7 @@ use Rattle.told_fields.proofs.ListLaws.{in-place, times-at-end, times-stopped}
 ---------------------------------------------------------------- entries
 
 -- the record of an entry's place, and its two numbers
-module _ {t i m : ℕ} {s : List ℕ} {a : At} {x y : Got} {w w′ : List ℕ} (qualifier : Ranged 43 s (a .c) x) (version : Ranged 44 s (x .c) y)
+module _ {t i m : ℕ} {s : List ℕ} {a : At} {x y : Got} {w w′ : List ℕ} (qualifier : Ranged rows.ae-qualifier s (a .c) x) (version : Ranged rows.ap-version s (x .c) y)
     (told : Told 3 w w′ (a .n) m (rec t 0 i 0 (a .c .at) ∷ rec tag.ae-qualifier 0 (x .v) 0 (a .c .at) ∷ rec tag.ap-version 0 (y .v) 0 (x .c .at) ∷ [])) where
   abbrev entryRecs : ℕ → List Rec
   entryRecs n = rec t n i 0 (a .c .at) ∷ rec tag.ae-qualifier n (x .v) 0 (a .c .at) ∷ rec tag.ap-version n (y .v) 0 (x .c .at) ∷ []
@@ -59,11 +60,11 @@ same-list : (b : Bool) (t : ℕ) → many 1 256 (entryOf b t) ≡ listOf b t
 same-list true t = refl
 same-list false t = refl
 
-takes-many : {f : Fmt} {s : List ℕ} {c d : Cursor} {T : ℕ → List Rec} (g : Got) → Sized 57 s c g → Times f 1 (g .v) s (g .c) d T → Takes (many 1 256 f) s c d T
+takes-many : {f : Fmt} {s : List ℕ} {c d : Cursor} {T : ℕ → List Rec} (g : Got) → Sized rows.applications s c g → Times f 1 (g .v) s (g .c) d T → Takes (many 1 256 f) s c d T
 unfolding read lowest highest
 takes-many {f} {s} g z h = record { took = λ x. z .size (λ k e q. times (λ i p. read f (x .0, i) (bitOf s) e p) 1 k q) (h .took x) }
 
-pub does-list : (b : Bool) {t : ℕ} {s : List ℕ} {a z : At} {w w′ : List ℕ} (g : Got) → Sized 57 s (a .c) g → Does (g .v * 3) 0 (Times (entryOf b t) 1 (g .v) s) (behind g a) z w w′ → Does 1536 0 (Takes (listOf b t) s) a z w w′
+pub does-list : (b : Bool) {t : ℕ} {s : List ℕ} {a z : At} {w w′ : List ℕ} (g : Got) → Sized rows.applications s (a .c) g → Does (g .v * 3) 0 (Times (entryOf b t) 1 (g .v) s) (behind g a) z w w′ → Does 1536 0 (Takes (listOf b t) s) a z w w′
 does-list b {t} g z x =
     let few = z .few in
     let y = does-within 1536 (omega arith) x in

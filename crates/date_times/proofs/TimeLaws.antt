@@ -11,6 +11,7 @@ use Rattle.cursor.specs.declared.place.Got.{Got}
 use Rattle.cursor.specs.Place.{put, Inside, Pulls}
 use Rattle.records.specs.Told.{Told}
 use Rattle.records.proofs.Telling.{told-then}
+use Rattle.field_ranges.specs.Rows as rows
 use Rattle.field_ranges.specs.Ranges.{rowAt}
 use Rattle.field_ranges.specs.Ends.{lowest, highest}
 use Rattle.ranged_numbers.specs.Numbers.{FromLowest, Ranged}
@@ -34,7 +35,7 @@ toldAt v b d e f g n =
     rec 11 n (v .year) 0 (v .at) ∷ rec 12 n (v .month) 0 b ∷ rec 13 n (v .day) 0 d ∷ rec 14 n (v .hours) 0 e ∷ rec 15 n (v .minutes) 0 f ∷ rec 16 n (v .seconds) 0 g ∷ []
 
 module _ {s : List ℕ} {c : Cursor} (year month day hours minutes seconds : Got) (fits : c .end < 2 ^ 64)
-    (a : Ranged 1 s c year) (b : Ranged 2 s (year .c) month) (d : Ranged 3 s (month .c) day) (e : Ranged 4 s (day .c) hours) (f : Ranged 5 s (hours .c) minutes) (g : Ranged 5 s (minutes .c) seconds) where
+    (a : Ranged rows.year s c year) (b : Ranged rows.month s (year .c) month) (d : Ranged rows.day s (month .c) day) (e : Ranged rows.hours s (day .c) hours) (f : Ranged rows.minutes s (hours .c) minutes) (g : Ranged rows.minutes s (minutes .c) seconds) where
   -- where the reading went on, each number stands behind the bits of those before
   same-places : Inside s c → seconds .c .why ≡ 0 → (n : ℕ) → toldAt (time c year month day hours minutes seconds .time) (year .c .at) (month .c .at) (day .c .at) (hours .c .at) (minutes .c .at) n ≡ dateTimeRecs (time c year month day hours minutes seconds .time) n
   unfolding lowest highest extent width widthIn word
@@ -65,12 +66,12 @@ module _ {s : List ℕ} {c : Cursor} (year month day hours minutes seconds : Got
 -- the numbers are told by the cursor behind the second pull, which takes the marks of one after another
 pub at-once : {s : List ℕ} {c : Cursor} {first second : Got} (year month day hours minutes seconds : Got)
     → Pulls s c 21 first → first .c .why ≡ 0 → Pulls s (first .c) 12 second → second .c .why ≡ 0
-    → FromLowest (rowAt 1) (second .c) (first .v / 16384) year
-    → FromLowest (rowAt 2) (year .c) (first .v / 1024 % 16) month
-    → FromLowest (rowAt 3) (month .c) (first .v / 32 % 32) day
-    → FromLowest (rowAt 4) (day .c) (first .v % 32) hours
-    → FromLowest (rowAt 5) (hours .c) (second .v / 64) minutes
-    → FromLowest (rowAt 5) (minutes .c) (second .v % 64) seconds
+    → FromLowest (rowAt rows.year) (second .c) (first .v / 16384) year
+    → FromLowest (rowAt rows.month) (year .c) (first .v / 1024 % 16) month
+    → FromLowest (rowAt rows.day) (month .c) (first .v / 32 % 32) day
+    → FromLowest (rowAt rows.hours) (day .c) (first .v % 32) hours
+    → FromLowest (rowAt rows.minutes) (hours .c) (second .v / 64) minutes
+    → FromLowest (rowAt rows.minutes) (minutes .c) (second .v % 64) seconds
     → c .end < 2 ^ 64
     → DateTimes s c (time c year month day hours minutes seconds)
 unfolding extent width widthIn

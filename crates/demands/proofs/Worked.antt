@@ -20,6 +20,7 @@ use Rattle.atn.proofs.Worked.{alone, one, one-told, one-out, one-bad, one-lack,
 use Rattle.cursor.specs.declared.place.Cursor.{Cursor}
 use Rattle.cursor.specs.declared.place.Got.{Got}
 use Rattle.cursor.specs.Place.{number, put, marked, Inside, Led, stayed, went, failed, Reads}
+use Rattle.field_ranges.specs.Rows as rows
 use Rattle.field_ranges.specs.Ends.{lowest, highest}
 use Rattle.cursor.proofs.Laws.{reads-ok, marked-nil}
 use Rattle.length_determinants.proofs.LengthLaws.{takes-small}
@@ -73,7 +74,7 @@ all-only [] e = tt
 all-only ((q gives a) ∷ l) e = (subst (Only q) (ap (head-of a) e) (only-given q), all-only l (ap tail-of e))
 
 -- the ranges of the worked fields are rows of the code's table: year, size of an airport, level, count of elements
-pub worked-rows : map {B = ℕ × ℕ} (λ (k : ℕ). (lowest k, highest k)) (1 ∷ 47 ∷ 21 ∷ 54 ∷ []) ≡ (1996, 2095) ∷ (4, 4) ∷ (minus 60, 7000) ∷ (1, 5) ∷ []
+pub worked-rows : map {B = ℕ × ℕ} (λ (k : ℕ). (lowest k, highest k)) (rows.year ∷ rows.airport-size ∷ rows.level-0 ∷ rows.elements ∷ []) ≡ (1996, 2095) ∷ (4, 4) ∷ (minus 60, 7000) ∷ (1, 5) ∷ []
 unfolding lowest highest
 worked-rows = refl
 

@@ -1,6 +1,7 @@
 // Names with an extension marker. An extended one is told as value 0 and second number 1, and what follows the bit is not read.
 // The extension bit is no field's: a name starts behind it, and an extended one has the place where the reading stood.
 ghost use mathlib.Core.Path.{_≡_};
+ghost use Rattle.field_ranges.specs.Rows.{speed-type, traffic-type, clearance-type, error-information, facility-function};
 ghost use Rattle.field_ranges.specs.Ranges.{Listed};
 ghost use Rattle.enumerations.specs.Readers.{Names, Triples};
 use cursor::place::Cursor;
@@ -51,31 +52,31 @@ fn read_name(s: &[u8], c: Cursor, range: Range) -> NameAt
 }
 
 pub fn read_speed_type(s: &[u8], c: Cursor) -> NameAt
-    ensures { λ r. ⌜ Names 29 (now (s .entry)) c r ⌝ }
+    ensures { λ r. ⌜ Names speed-type (now (s .entry)) c r ⌝ }
 {
     read_name(s, c, SPEED_TYPE)
 }
 
 pub fn read_traffic_type(s: &[u8], c: Cursor) -> NameAt
-    ensures { λ r. ⌜ Names 30 (now (s .entry)) c r ⌝ }
+    ensures { λ r. ⌜ Names traffic-type (now (s .entry)) c r ⌝ }
 {
     read_name(s, c, TRAFFIC_TYPE)
 }
 
 pub fn read_clearance_type(s: &[u8], c: Cursor) -> NameAt
-    ensures { λ r. ⌜ Names 31 (now (s .entry)) c r ⌝ }
+    ensures { λ r. ⌜ Names clearance-type (now (s .entry)) c r ⌝ }
 {
     read_name(s, c, CLEARANCE_TYPE)
 }
 
 pub fn read_error_information(s: &[u8], c: Cursor) -> NameAt
-    ensures { λ r. ⌜ Names 32 (now (s .entry)) c r ⌝ }
+    ensures { λ r. ⌜ Names error-information (now (s .entry)) c r ⌝ }
 {
     read_name(s, c, ERROR_INFORMATION)
 }
 
 pub fn read_facility_function(s: &[u8], c: Cursor) -> NameAt
-    ensures { λ r. ⌜ Names 33 (now (s .entry)) c r ⌝ }
+    ensures { λ r. ⌜ Names facility-function (now (s .entry)) c r ⌝ }
 {
     read_name(s, c, FACILITY_FUNCTION)
 }

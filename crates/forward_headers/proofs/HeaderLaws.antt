@@ -11,6 +11,7 @@ use Rattle.atn.proofs.Steps.{sized-go}
 use Rattle.cursor.specs.declared.place.Cursor.{Cursor}
 use Rattle.character_strings.specs.declared.TextAt.{TextAt}
 use Rattle.length_determinants.specs.Lengths.{Passes}
+use Rattle.field_ranges.specs.Rows as rows
 use Rattle.field_ranges.specs.Ends.{lowest, highest}
 use Rattle.cursor.specs.Place.{Inside, Takes}
 use Rattle.character_strings.specs.Texts.{Texts}
@@ -40,7 +41,7 @@ module _ {s : List ℕ} {c d : Cursor} (passes : Passes c 24 d) where
       same : (x : Ctx) → Inside s c → pull (bitOf s) (c .end) (c .at) 24 (λ _. ok (c .at + 24) (rec 20 (x .0) (c .at) 24 (c .at) ∷ []) 0) ≡ read (span 20 1 24 24) x (bitOf s) (c .end) (c .at)
       same x i = sym (sized-go (bitOf s) (c .end) (c .at) 24 24 24 (bits x) (omega arith) (omega arith) tt (omega (arith, i .0)) ∙ ap (λ (q : ℕ). bits x 24 q) (omega arith))
 
-pub header-read : {s : List ℕ} {c d : Cursor} {t : DateTimeAt} {x : TextAt} → DateTimes s c t → Texts 50 s (t .c) x → Passes (x .c) 24 d
+pub header-read : {s : List ℕ} {c d : Cursor} {t : DateTimeAt} {x : TextAt} → DateTimes s c t → Texts rows.flight-size s (t .c) x → Passes (x .c) 24 d
     → Headers s c (record { header = record { time = t .time; name = x .text; address = x .c .at }; c = d })
 unfolding lowest highest flags allRead
 header-read h g p = record { takes = takes-plain refl refl (fields-must (h .takes) (fields-must (g .text 19) (fields-last (address p)))); few = g .few; held = g .held }

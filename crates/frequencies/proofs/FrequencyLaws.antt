@@ -12,6 +12,7 @@ use Rattle.cursor.specs.declared.place.Cursor.{Cursor}
 use Rattle.cursor.specs.declared.place.Got.{Got}
 use Rattle.character_strings.specs.declared.TextAt.{TextAt}
 use Rattle.cursor.specs.Place.{Pulls, Takes}
+use Rattle.field_ranges.specs.Rows as rows
 use Rattle.field_ranges.specs.Ends.{lowest, highest}
 use Rattle.ranged_numbers.specs.Numbers.{rowsThen, Ranged}
 use Rattle.character_strings.specs.Texts.{Channel, channelRecs}
@@ -38,11 +39,11 @@ channel-recs (suc (suc zero)) s v n h = absurd (omega arith)
 channel-recs (suc (suc (suc k))) s v n h = refl
 
 module _ {s : List ℕ} {c : Cursor} (g : Got) (p : Pulls s c 2 g) where
-  pub frequency-number : (r : Got) → g .v < 3 → Ranged (25 + g .v) s (g .c) r
+  pub frequency-number : (r : Got) → g .v < 3 → Ranged (rows.frequency-0 + g .v) s (g .c) r
       → Frequencies s c (record { frequency = record { kind = g .v; «kind_at» = c .at; number = r .v; «number_at» = g .c .at; channel = record { from = 0; at = 0; len = 0 } }; c = r .c })
   unfolding frequencyRecs lowest highest width widthIn encoding.highest count
   frequency-number r l h =
-      let y : Takes message.frequency s c (r .c) (λ n. rec 57 n (g .v) 0 (c .at) ∷ rec 58 n (r .v) 0 (g .c .at) ∷ []) = takes-row 57 58 25 3 behind g p r l h in
+      let y : Takes message.frequency s c (r .c) (λ n. rec 57 n (g .v) 0 (c .at) ∷ rec 58 n (r .v) 0 (g .c .at) ∷ []) = takes-row 57 58 rows.frequency-0 3 behind g p r l h in
       record {
         reads = record { took = λ x. rw (number-recs (g .v) s _ (x .0) l) (y .took x) };
         held = record { few = omega arith; there = record { there = omega arith; fits = omega arith } };
@@ -52,6 +53,6 @@ module _ {s : List ℕ} {c : Cursor} (g : Got) (p : Pulls s c 2 g) where
   unfolding readChoice frequencyRecs lowest highest width widthIn encoding.highest count
   frequency-channel r l h =
       record {
-        reads = takes-index 57 (rowsThen 58 25 3 behind) 3 _ (record { v = 3; c = g .c }) (pulls-last 2 3 g refl p l) refl (λ x u q. refl) (h .channel 59 73);
+        reads = takes-index 57 (rowsThen 58 rows.frequency-0 3 behind) 3 _ (record { v = 3; c = g .c }) (pulls-last 2 3 g refl p l) refl (λ x u q. refl) (h .channel 59 73);
         held = record { few = h .few; there = h .held };
       }

@@ -14,6 +14,7 @@ use Rattle.cursor.specs.declared.place.Cursor.{Cursor}
 use Rattle.cursor.specs.declared.place.Got.{Got}
 use Rattle.cursor.specs.Place.{Reads, Takes}
 use Rattle.character_strings.specs.Texts.{Sized}
+use Rattle.field_ranges.specs.Rows as rows
 use Rattle.field_ranges.specs.Ends.{lowest, highest}
 use Rattle.cursor.proofs.Laws.{reads-then, reads-ok, reads-here, marked-nil}
 use Rattle.runs.specs.declared.At.{At}
@@ -52,7 +53,7 @@ part-sized {k = k} K {s} {c} {g} z x =
       told = x .told;
     }
 
-pub legs-all : {s : List ℕ} {c : Cursor} {g : Got} {n i : ℕ} {w w′ : List ℕ} {r : At} → Sized 56 s c g → i ≡ g .v → Part (158 * i) (legsOf s i) s (g .c) n w w′ r
+pub legs-all : {s : List ℕ} {c : Cursor} {g : Got} {n i : ℕ} {w w′ : List ℕ} {r : At} → Sized rows.legs s c g → i ≡ g .v → Part (158 * i) (legsOf s i) s (g .c) n w w′ r
     → Part 80896 (λ e p. read (many 1 128 message.leg) (0, 0) (bitOf s) e p) s c n w w′ r
 unfolding read lowest highest
 legs-all {s} z q x = part-within (part-sized (legsOf s) z (rw q at x)) 80896 (omega (arith, z .few))

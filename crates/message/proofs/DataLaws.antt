@@ -13,6 +13,7 @@ use Rattle.atn.proofs.Tame.{tame, tameFields}
 use Rattle.atn.proofs.Elements.{elements-firm}
 use Rattle.cursor.specs.declared.place.Cursor.{Cursor}
 use Rattle.cursor.specs.declared.place.Got.{Got}
+use Rattle.field_ranges.specs.Rows as rows
 use Rattle.field_ranges.specs.Ends.{lowest, highest}
 use Rattle.cursor.specs.Place.{Inside, Opens}
 use Rattle.character_strings.specs.Texts.{Sized}
@@ -45,7 +46,7 @@ module _ (has : ℕ) {s : List ℕ} {c : Cursor} {n : ℕ} {w : List ℕ} where
   constrained-some z x = runs-set absent (there s) has z x
 
 -- the elements behind their count
-module _ (table : List ℕ) {s : List ℕ} {c : Cursor} {g z : Got} {n : ℕ} {w : List ℕ} (opens : Opens s c 1 g) (size : Sized 54 s (g .c) z) where
+module _ (table : List ℕ) {s : List ℕ} {c : Cursor} {g z : Got} {n : ℕ} {w : List ℕ} (opens : Opens s c 1 g) (size : Sized rows.elements s (g .c) z) where
   counted : {a : ℕ} {w₁ : List ℕ} {r : At} → Runs a (elementsAt table 1 (z .v) s) s (z .c) n w w₁ r → Runs a (λ u p. read (many 1 5 (elementFormat table)) (0, 0) (bitOf s) u p) s (g .c) n w w₁ r
   unfolding read elementsAt lowest highest
   counted y = runs-sized 54 (λ k u p. elementsAt table 1 k s u p) size y
@@ -70,7 +71,7 @@ module _ (table : List ℕ) {s : List ℕ} {c : Cursor} {g z : Got} {n : ℕ} {w
 ---------------------------------------------------------------- the message
 
 module _ (table : List ℕ) {s : List ℕ} {c : Cursor} {g : Got} {n : ℕ} {w w₁ w₂ w₃ w₄ w₅ : List ℕ} {r₁ r₂ r₃ r₄ r₅ : At} {b : ℕ} (opens : Opens s c 2 g) where
-  pub message-read : Runs 1 (numberField 6 9 s) s (g .c) n w w₁ r₁ → Runs 1 (maybeNumberField (g .v / 2 % 2) 6 10 s) s (r₁ .c) (r₁ .n) w₁ w₂ r₂ → Runs 6 (dateTimeField s) s (r₂ .c) (r₂ .n) w₂ w₃ r₃
+  pub message-read : Runs 1 (numberField rows.msg-id 9 s) s (g .c) n w w₁ r₁ → Runs 1 (maybeNumberField (g .v / 2 % 2) rows.msg-id 10 s) s (r₁ .c) (r₁ .n) w₁ w₂ r₂ → Runs 6 (dateTimeField s) s (r₂ .c) (r₂ .n) w₂ w₃ r₃
       → Runs 1 (acknowledgmentField (g .v % 2) s) s (r₃ .c) (r₃ .n) w₃ w₄ r₄ → Runs b (dataAt table s) s (r₄ .c) (r₄ .n) w₄ w₅ r₅ → Runs (1 + (1 + (6 + (1 + b)))) (messageAt table s) s c n w w₅ r₅
   unfolding messageAt numberField maybeNumberField dateTimeField acknowledgmentField dataAt lowest highest tame tameFields flags allRead
   message-read x₁ x₂ x₃ x₄ x₅ =

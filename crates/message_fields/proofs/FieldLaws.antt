@@ -9,6 +9,7 @@ use Rattle.atn.specs.Messages.{dateTimeGroup}
 use Rattle.atn.specs.Reading.{Ans, ok, rec, fork, read}
 use Rattle.cursor.specs.declared.place.Cursor.{Cursor}
 use Rattle.cursor.specs.declared.place.Got.{Got}
+use Rattle.field_ranges.specs.Rows as rows
 use Rattle.field_ranges.specs.Ends.{lowest, highest}
 use Rattle.ranged_numbers.specs.Numbers.{Ranged}
 use Rattle.cursor.proofs.Laws.{reads-ok, reads-here, marked-nil}
@@ -62,6 +63,6 @@ module _ (has : ℕ) {s : List ℕ} {c : Cursor} {n : ℕ} {w : List ℕ} where
   unfolding acknowledgmentField
   acknowledgment-absent z h x = runs-clear absent (there s) has z (runs-told absent (reads-here (λ p. rec 17 0 1 0 p ∷ []) 0 (marked-nil c)) h x)
 
-  pub acknowledgment-there : {w′ : List ℕ} {r : At} → (has ≡ 0 → ⊥) → Runs 1 (numberField 0 17 s) s c n w w′ r → Runs 1 (acknowledgmentField has s) s c n w w′ r
+  pub acknowledgment-there : {w′ : List ℕ} {r : At} → (has ≡ 0 → ⊥) → Runs 1 (numberField rows.side 17 s) s c n w w′ r → Runs 1 (acknowledgmentField has s) s c n w w′ r
   unfolding acknowledgmentField numberField lowest highest
   acknowledgment-there z x = runs-set absent (there s) has z x

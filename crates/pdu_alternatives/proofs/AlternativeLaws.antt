@@ -13,6 +13,7 @@ use Rattle.atn.specs.Tags as tag
 use Rattle.atn.proofs.Tame.{tame}
 use Rattle.cursor.specs.declared.place.Cursor.{Cursor}
 use Rattle.cursor.specs.declared.place.Got.{Got}
+use Rattle.field_ranges.specs.Rows as rows
 use Rattle.field_ranges.specs.Ends.{lowest, highest}
 use Rattle.cursor.specs.Place.{stopped, Opens}
 use Rattle.cursor.proofs.Laws.{reads-same, reads-stop}
@@ -28,7 +29,7 @@ use Rattle.pdu_parts.specs.Parts.{reasonAt}
 use Rattle.pdu_alternatives.specs.Alternatives.{startAt, alternatives, alternativeAt}
 
 module _ (down : List ℕ) {s : List ℕ} {c : Cursor} {g : Got} {n : ℕ} {w w₁ w₂ : List ℕ} {r t : At} (opens : Opens s c 1 g) where
-  pub start-read : {b : ℕ} → Runs 1 (maybeNumberField (g .v % 2) 0 7 s) s (g .c) n w w₁ r → Runs b (protected down s) s (r .c) (r .n) w₁ w₂ t → Runs (1 + b) (startAt down s) s c n w w₂ t
+  pub start-read : {b : ℕ} → Runs 1 (maybeNumberField (g .v % 2) rows.side 7 s) s (g .c) n w w₁ r → Runs b (protected down s) s (r .c) (r .n) w₁ w₂ t → Runs (1 + b) (startAt down s) s c n w w₂ t
   unfolding startAt maybeNumberField numberField protected lowest highest tame flags allRead
   start-read x y =
       record {
@@ -47,12 +48,12 @@ module _ (down : List ℕ) {s : List ℕ} {c : Cursor} {g : Got} {n : ℕ} {w w�
 
 module _ (v : ℕ) (down up : List ℕ) {b : ℕ} {s : List ℕ} {c : Cursor} {n : ℕ} {w w′ : List ℕ} {r : At} where
   -- of both directions: the reasons of aborts
-  pub user-abort : (d : ℕ) → v ≡ 0 → Runs b (reasonAt 37 4 s) s c n w w′ r → Runs b (alternativeAt d v down up s) s c n w w′ r
+  pub user-abort : (d : ℕ) → v ≡ 0 → Runs b (reasonAt rows.user-abort-reason 4 s) s c n w w′ r → Runs b (alternativeAt d v down up s) s c n w w′ r
   unfolding alternativeAt reasonAt readChoice highest
   user-abort zero q x = rw q x
   user-abort (suc d) q x = rw q x
 
-  pub provider-abort : (d : ℕ) → v ≡ 1 → Runs b (reasonAt 38 5 s) s c n w w′ r → Runs b (alternativeAt d v down up s) s c n w w′ r
+  pub provider-abort : (d : ℕ) → v ≡ 1 → Runs b (reasonAt rows.provider-abort-reason 5 s) s c n w w′ r → Runs b (alternativeAt d v down up s) s c n w w′ r
   unfolding alternativeAt reasonAt readChoice highest
   provider-abort zero q x = rw q x
   provider-abort (suc d) q x = rw q x
@@ -82,7 +83,7 @@ module _ (v : ℕ) (down up : List ℕ) {b : ℕ} {s : List ℕ} {c : Cursor} {n
   unfolding alternativeAt forwardAt readChoice
   up-forward q x = rw q x
 
-  pub up-response : v ≡ 5 → Runs b (reasonAt 39 6 s) s c n w w′ r → Runs b (alternativeAt 1 v down up s) s c n w w′ r
+  pub up-response : v ≡ 5 → Runs b (reasonAt rows.forward-response 6 s) s c n w w′ r → Runs b (alternativeAt 1 v down up s) s c n w w′ r
   unfolding alternativeAt reasonAt readChoice highest
   up-response q x = rw q x
 

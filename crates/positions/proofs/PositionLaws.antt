@@ -12,6 +12,7 @@ use Rattle.cursor.specs.declared.place.Cursor.{Cursor}
 use Rattle.cursor.specs.declared.place.Got.{Got}
 use Rattle.character_strings.specs.declared.TextAt.{TextAt}
 use Rattle.cursor.specs.Place.{stopped, Pulls}
+use Rattle.field_ranges.specs.Rows as rows
 use Rattle.field_ranges.specs.Ends.{lowest, highest}
 use Rattle.character_strings.specs.Texts.{Texts}
 use Rattle.ranged_numbers.proofs.ChoiceLaws.{takes-index, takes-unlisted}
@@ -27,15 +28,15 @@ abbrev alts : Alts
 alts = message.named 31 5 ∥ message.named 32 4 ∥ message.ia5 33 4 4 ∥ message.latlon ∥ message.unlisted ∥ none-left
 
 module _ {s : List ℕ} {c : Cursor} (g : Got) (p : Pulls s c 3 g) where
-  pub position-fix : g .v ≡ 0 → (r : NamedAt) → NamedPlaces 45 s (g .c) r → Positions s c (record { position = Fix (c .at) (r .named); c = r .c })
+  pub position-fix : g .v ≡ 0 → (r : NamedAt) → NamedPlaces rows.fix-size s (g .c) r → Positions s c (record { position = Fix (c .at) (r .named); c = r .c })
   unfolding readChoice width widthIn encoding.highest count lowest highest
   position-fix z r h = record { reads = takes-index 30 alts 0 _ g p z (λ x u q. refl) (h .reads 31); held = h .held }
 
-  pub position-navaid : g .v ≡ 1 → (r : NamedAt) → NamedPlaces 46 s (g .c) r → Positions s c (record { position = Navaid (c .at) (r .named); c = r .c })
+  pub position-navaid : g .v ≡ 1 → (r : NamedAt) → NamedPlaces rows.navaid-size s (g .c) r → Positions s c (record { position = Navaid (c .at) (r .named); c = r .c })
   unfolding readChoice width widthIn encoding.highest count lowest highest
   position-navaid z r h = record { reads = takes-index 30 alts 1 _ g p z (λ x u q. refl) (h .reads 32); held = h .held }
 
-  pub position-airport : g .v ≡ 2 → (r : TextAt) → Texts 47 s (g .c) r → Positions s c (record { position = Airport (c .at) (r .text); c = r .c })
+  pub position-airport : g .v ≡ 2 → (r : TextAt) → Texts rows.airport-size s (g .c) r → Positions s c (record { position = Airport (c .at) (r .text); c = r .c })
   unfolding readChoice width widthIn encoding.highest count lowest highest
   position-airport z r h = record { reads = takes-index 30 alts 2 _ g p z (λ x u q. refl) (h .text 33); held = held-text h }
 
