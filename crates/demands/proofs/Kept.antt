@@ -6,7 +6,7 @@ use Prim.Native.Nat.{ℕ}
 use native.Mathlib.Omega.{arith}
 use Rattle.atn.specs.Reading.{Rec}
 use Rattle.atn.specs.Places.{Rising}
-use Rattle.atn.specs.Entries.{Reply, accept, Outcome, accepted, refused, Test}
+use Rattle.atn.specs.Entries.{Reply, accept, Outcome, accepted, refused, need, Test}
 use Rattle.atn.specs.Entries as entries
 use Rattle.atn.specs.Demands.{CutOrOut, cut, ended, Owes}
 use Rattle.atn.proofs.Outcomes.{Settled}
@@ -39,7 +39,7 @@ pub record Climbs (F : List ℕ → Reply) (P : List ℕ → List ℕ → Outcom
   pub told : (s w : List ℕ) {c : Bool} {p m k : ℕ} {w′ : List ℕ} → P s w ≡ (accepted c p m k, w′) → Settled (F s) w c p m k w′
   pub rises : (s : List ℕ) {c : Bool} {p m : ℕ} {R : List Rec} → F s ≡ accept c p m R → Rising 0 R p
 
-pub promises : {ts : List Test} (F : List ℕ → Reply) (P : List ℕ → List ℕ → Outcome) → Owes ts F P → Climbs F P → Promises F P
+pub promises : {ts : List Test} (F : List ℕ → Reply) (P : List ℕ → List ℕ → Outcome) → Owes ts F P → Climbs F P → Promises ts F P
 promises F P o u =
     record {
       one = λ s w {r} {q} x y. says-is {r = r} {q = q} x (sym (y .is));
@@ -54,6 +54,7 @@ promises F P o u =
           let h = o .noRoom s w (sym (x .is)) in
           let n = h .2 in
           (n .cut, n .marks, n .recs, n .replied, n .needs, n .full);
+      noRoom⁻ = λ s w c p m R {r} l h e n x. says-is {r = r} {q = Refused 7 p (need R) 0} x (o .noRoom⁻ s w c p m R l h e n);
       within = λ s w x. o .within s w (sym (x .is));
       lackedNone = λ s w x n. o .lackedNone s w (sym (x .is)) n;
       lackedSome = λ s w x. o .lackedSome s w (sym (x .is));

@@ -6,8 +6,8 @@ use Prim.Native.Nat.{ℕ, _+_, _*_, _≤_, _<_}
 use lib.ListN.{length, drop, take}
 use Rattle.atn.specs.Reading.{Rec}
 use Rattle.atn.specs.Places.{Rising}
-use Rattle.atn.specs.Entries.{Reply, accept, Outcome, flat, need}
-use Rattle.atn.specs.Demands.{Shares, Longer, Enough}
+use Rattle.atn.specs.Entries.{Reply, accept, Outcome, flat, need, Test, frame-fits}
+use Rattle.atn.specs.Demands.{passes, Shares, Longer, Enough}
 use Rattle.answers.specs.declared.Answer.{Answer}
 use Rattle.answers.specs.declared.Answer.the-variants.{Accepted, Refused}
 use Rattle.answers.specs.Says.{Says}
@@ -17,8 +17,8 @@ abbrev pub Ended : Answer → Type 0
 Ended (Accepted c p m k) = c ≡ true
 Ended (Refused n p k l) = n ≡ 4
 
--- demands 1 and 3 of an entry whose outcome is P of frame and words, and whose reading of the frame is F
-pub record Promises (F : List ℕ → Reply) (P : List ℕ → List ℕ → Outcome) : Type 0 where
+-- demands 1 and 3 of an entry whose outcome is P of frame and words, and which reads the frame by F where all of the tests ts hold
+pub record Promises (ts : List Test) (F : List ℕ → Reply) (P : List ℕ → List ℕ → Outcome) : Type 0 where
   -- demand 1: "Every call with any frame, table and room ends with an answer or a numbered refusal from document 01": the contract allows one alone, with one content of the words
   pub one : (s w : List ℕ) {r q : Answer} {w₁ w₂ : List ℕ} → Says r w₁ (P s w) → Says q w₂ (P s w) → (r ≡ q) × (w₁ ≡ w₂)
   -- demand 1: "A refusal leaves the lent words untouched"
@@ -32,6 +32,8 @@ pub record Promises (F : List ℕ → Reply) (P : List ℕ → List ℕ → Outc
   pub cutShort : (s w v : List ℕ) (j : ℕ) {p m k : ℕ} {r : Answer} {w₁ v₁ : List ℕ} → Says (Accepted false p m k) w₁ (P s w) → j * 8 < p → Enough (F (take j s)) v → Says r v₁ (P (take j s) v) → Ended r
   -- "No room is said exactly when an accepted reading's records do not fit": only then
   pub noRoom : (s w : List ℕ) {p k l : ℕ} {w₁ : List ℕ} → Says (Refused 7 p k l) w₁ (P s w) → (c : Bool) × (m : ℕ) × (R : List Rec) × (F s ≡ accept c p m R) × (k ≡ need R) × (length w < need R)
+  -- and always then
+  pub noRoom⁻ : (s w : List ℕ) (c : Bool) (p m : ℕ) (R : List Rec) {r : Answer} {w₁ : List ℕ} → frame-fits s ≡ true → passes ts ≡ true → F s ≡ accept c p m R → length w < need R → Says r w₁ (P s w) → (r ≡ Refused 7 p (need R) 0) × (w₁ ≡ w)
   -- the reach is inside the frame
   pub within : (s w : List ℕ) {c : Bool} {p m k : ℕ} {w₁ : List ℕ} → Says (Accepted c p m k) w₁ (P s w) → p ≤ length s * 8
   -- request b) of 02: only "ran out" has bits that were lacked, and it has some
