@@ -1,11 +1,11 @@
 -- Parts that are read and told, put together: behind a number, one after another.
 use mathlib.Core.Path.{_≡_, refl, sym, ap, _∙_}
 use mathlib.Core.List.{List, [], _∷_, _++_}
-use Prim.Native.Nat.{ℕ, _+_, _*_, _^_, _≤_, _<_, _-_}
+use Prim.Native.Nat.{ℕ, _+_, _*_, _/_, _%_, _^_, _≤_, _<_, _-_}
 use native.Mathlib.Omega.{arith}
 use lib.ListN.{length, length-append}
 use Rattle.x691.specs.Bits.{bitOf, uint}
-use Rattle.atn.specs.Format.{Why, out, bad}
+use Rattle.atn.specs.Format.{Why, out, bad, lack, quit}
 use Rattle.atn.specs.Reading.{Rec, rec, Ans, ok, past, stop, or, glue, then, pull}
 use Rattle.atn.proofs.Marks.{or-assoc, or-nil}
 use Rattle.atn.proofs.Steps.{pull-go, pull-no}
@@ -16,7 +16,7 @@ use Rattle.schema_tables.specs.Entry.{top}
 use Rattle.capped_records.specs.Place.{counted, placeOne, place, Put}
 use Rattle.capped_records.proofs.PlaceLaws.{place-length, one-length, place-append, place-capped, counted-none, counted-then, counted-top}
 use Rattle.schema_leaves.specs.declared.Step.{Step}
-use Rattle.schema_leaves.specs.Came.{Open, Came, went, failed}
+use Rattle.schema_leaves.specs.Came.{Open, refusal, lacked, Came, went, failed}
 
 abbrev pub at : Cursor → ℕ → Step
 at c n = record { c = c; n = n }
@@ -25,20 +25,24 @@ at c n = record { c = c; n = n }
 
 pub came-length : {x : Ans} {a z : Step} {w w′ : List ℕ} → Came x a w z w′ → length w′ ≡ length w
 came-length {a = a} {w = w} (went p m R e l c n q) = rw q (place-length w (a .n) R)
-came-length (failed y p m S n e l c q h) = h
+came-length (failed y p m S n e l c k q h) = h
+
+-- a reading that stopped says why
+pub says-why : (y : Why) {v : ℕ} → (refusal y ≡ 0 → ⊥) → v % 16 ≡ refusal y → v ≡ 0 → ⊥
+says-why y {v} n e h = n (sym e ∙ (let z : v % 16 ≡ 0 = omega arith in z))
 
 pub came-open : {s : List ℕ} {x : Ans} {a z : Step} {w w′ : List ℕ} → Open s a → Came x a w z w′ → z .c .why ≡ 0 → Open s z
 came-open {a = a} o (went p m R e l c n q) h = record { goes = h; inside = rw c (l, o .inside .1); short = o .short; few = rw n (counted-top (a .n) (length R)) }
-came-open o (failed y p m S n e l c q k) h = absurd (n (sym c ∙ h))
+came-open o (failed y p m S n e l c j q k) h = absurd (says-why y n c h)
 
 pub came-end : {x : Ans} {a z : Step} {w w′ : List ℕ} → Came x a w z w′ → z .c .why ≡ 0 → z .c .end ≡ a .c .end
 came-end (went p m R e l c n q) h = rw c
-came-end (failed y p m S n e l c q k) h = absurd (n (sym c ∙ h))
+came-end (failed y p m S n e l c j q k) h = absurd (says-why y n c h)
 
 -- the same answer, from a step in the same window with the same marks and records
 pub came-as : {x y : Ans} {a b z : Step} {w w′ : List ℕ} → y ≡ x → a .c .end ≡ b .c .end → a .c .marks ≡ b .c .marks → a .n ≡ b .n → Came x a w z w′ → Came y b w z w′
 came-as {a = a} {b = b} e i j k (went p m R f l c n q) = went p m R (e ∙ f) (rw i at l) (c ∙ rw (i, j)) (n ∙ rw k) (q ∙ rw k)
-came-as {a = a} {b = b} e i j k (failed y p m S n f l c q h) = failed y p m S n (e ∙ f) (rw i at l) c q h
+came-as {a = a} {b = b} e i j k (failed y p m S n f l c u q h) = failed y p m S n (e ∙ f) (rw i at l) c u q h
 
 pub came-same : {x y : Ans} {a z : Step} {w w′ : List ℕ} → y ≡ x → Came x a w z w′ → Came y a w z w′
 came-same e h = came-as e refl refl refl h
@@ -56,15 +60,15 @@ unfolding place
 came-told m r l e h = went _ m (r ∷ []) refl l e (h .count) (h .words)
 
 -- the reading stops
-pub came-stopped : {a : Step} {z : Step} {w w′ : List ℕ} (y : Why) (m : ℕ) {p : ℕ} {S : List Rec} → (number y ≡ 0 → ⊥) → p ≤ a .c .end → z .c .why ≡ number y → z .c .at ≡ p → length w′ ≡ length w → Came (stop y p S m) a w z w′
-came-stopped y m n l e q h = failed y _ m _ n refl l e q h
+pub came-stopped : {a : Step} {z : Step} {w w′ : List ℕ} (y : Why) (m : ℕ) {p : ℕ} {S : List Rec} → (refusal y ≡ 0 → ⊥) → p ≤ a .c .end → z .c .why % 16 ≡ refusal y → z .n ≡ lacked y → z .c .at ≡ p → length w′ ≡ length w → Came (stop y p S m) a w z w′
+came-stopped y m n l e k q h = failed y _ m _ n refl l e k q h
 
 ---------------------------------------------------------------- one after another
 
 pub came-stops : {x : Ans} {a z : Step} {w w′ : List ℕ} (k : ℕ → Ans) → Came x a w z w′ → (z .c .why ≡ 0 → ⊥) → Came (then x k) a w z w′
 unfolding then
 came-stops k (went p m R e l c n q) h = absurd (h (rw c refl))
-came-stops k (failed y p m S n e l c q i) h = failed y p m S n (rw e) l c q i
+came-stops k (failed y p m S n e l c j q i) h = failed y p m S n (rw e) l c j q i
 
 onward : (w : List ℕ) (n j : ℕ) (S : List Rec) → length w ≤ top → place w (counted n j) S ≡ place w (n + j) S
 unfolding counted
@@ -82,10 +86,10 @@ came-then {x = x} {a = a} {b = b} {z = z} {w = w} {w′ = w′} {w″ = w″} k 
         let f : k p ≡ ok p′ S m′ = rw o at e′ in
         went p′ (or m m′) (R ++ S) (rw (e, f)) (rw c at l′) (c′ ∙ rw (c, or-assoc (a .c .marks) m m′)) (n′ ∙ rw (n, length-append) (counted-then (a .n) (length R) (length S)))
         (q′ ∙ rw (n, q) (onward (place w (a .n) R) (a .n) (length R) S (rw (place-length w (a .n) R) t)) ∙ sym (place-append w (a .n) R S))
-    go (failed u p′ m′ S i e′ l′ c′ q′ j) =
+    go (failed u p′ m′ S i e′ l′ c′ d′ q′ j) =
         let f : k p ≡ stop u p′ S m′ = rw o at e′ in
-        failed u p′ (or m m′) (R ++ S) i (rw (e, f)) (rw c at l′) c′ q′ (j ∙ rw q (place-length w (a .n) R))
-came-then k t (failed y p m S n e l c q i) h z = absurd (n (sym c ∙ h))
+        failed u p′ (or m m′) (R ++ S) i (rw (e, f)) (rw c at l′) c′ d′ q′ (j ∙ rw q (place-length w (a .n) R))
+came-then k t (failed y p m S n e l c j q i) h z = absurd (says-why y n c h)
 
 ---------------------------------------------------------------- behind a number
 
@@ -104,12 +108,15 @@ module _ {s : List ℕ} {a : Step} (o : Open s a) (n : ℕ) (g : Got) (p : Pulls
       go (short h l q) = absurd (let y : 4 + 16 * (a .c .at + n - a .c .end) ≡ 0 = rw q at z in omega arith)
       go (got h l v q) = record { room = l; value = v; cursor = q }
 
-  pub came-short : {w : List ℕ} (k : ℕ → Ans) → (g .c .why ≡ 0 → ⊥) → Came (pull (bitOf s) (a .c .end) (a .c .at) n k) a w (at (g .c) (a .n)) w
+  -- or the cursor says how many were lacked
+  pub came-short : {w : List ℕ} (k : ℕ → Ans) → (g .c .why ≡ 0 → ⊥) → Came (pull (bitOf s) (a .c .end) (a .c .at) n k) a w (at (g .c) (g .c .why / 16)) w
   came-short {w} k h = go (p .gave (o .inside))
     where
-      go : Pulled s (a .c) n g → Came (pull (bitOf s) (a .c .end) (a .c .at) n k) a w (at (g .c) (a .n)) w
+      go : Pulled s (a .c) n g → Came (pull (bitOf s) (a .c .end) (a .c .at) n k) a w (at (g .c) (g .c .why / 16)) w
       go (stuck i q) = absurd (i (o .goes))
-      go (short i l q) = failed (out (a .c .at + n - a .c .end)) (a .c .at) 0 [] (λ x. omega (arith, x)) (pull-no (bitOf s) (a .c .end) (a .c .at) n k l) (o .inside .0) (rw q) (rw q) refl
+      go (short i l q) =
+          let y : g .c .why ≡ 4 + 16 * (a .c .at + n - a .c .end) = rw q in
+          failed (out (a .c .at + n - a .c .end)) (a .c .at) 0 [] (λ x. omega (arith, x)) (pull-no (bitOf s) (a .c .end) (a .c .at) n k l) (o .inside .0) (omega arith) (omega arith) (rw q) refl
       go (got i l v q) = absurd (h (rw q refl))
 
   pub came-pull : {z : Step} {w w′ : List ℕ} (k : ℕ → Ans) → g .c .why ≡ 0 → Came (k (g .v)) (at (g .c) (a .n)) w z w′ → Came (pull (bitOf s) (a .c .end) (a .c .at) n k) a w z w′

@@ -2,7 +2,7 @@
 use mathlib.Core.Path.{_≡_, refl, sym, ap, _∙_}
 use mathlib.Core.Bool.{true, false}
 use mathlib.Core.List.{List, [], _∷_}
-use Prim.Native.Nat.{ℕ, _+_, _-_, _%_, _^_, _≤_, _<_}
+use Prim.Native.Nat.{ℕ, _+_, _-_, _/_, _%_, _^_, _≤_, _<_}
 use native.Mathlib.Omega.{arith}
 use lib.ListN.{length}
 use lib.Dec.{leb, eqb}
@@ -52,7 +52,7 @@ module _ {s : List ℕ} {a : Step} (o : Open s a) (t lo hi d n : ℕ) (g : Got) 
   abbrev after : ℕ → Ans
   after v = ok (a .c .at + n) (rec t 0 (word (lo + v)) 0 (a .c .at) ∷ []) (over (extent lo hi) v)
 
-  pub number-short : {w : List ℕ} → (g .c .why ≡ 0 → ⊥) → Came (read (num t lo hi) (0, 0) (bitOf s) (a .c .end) (a .c .at)) a w (at (g .c) (a .n)) w
+  pub number-short : {w : List ℕ} → (g .c .why ≡ 0 → ⊥) → Came (read (num t lo hi) (0, 0) (bitOf s) (a .c .end) (a .c .at)) a w (at (g .c) (g .c .why / 16)) w
   unfolding read
   number-short h = rw w-is (came-short o n g p after h)
 
@@ -80,11 +80,11 @@ module _ {s : List ℕ} {a : Step} (o : Open s a) (t hi n : ℕ) (g : Got) (b : 
   abbrev named : ℕ → Ans
   named v = guard (leb v (extent 0 hi)) (a .c .at + n) (mark 1) (ok (a .c .at + n) (rec t 0 v 0 (a .c .at) ∷ []) 0)
 
-  pub name-short : {w : List ℕ} → (g .c .why ≡ 0 → ⊥) → Came (read (name t hi) (0, 0) (bitOf s) (a .c .end) (a .c .at)) a w (at (g .c) (a .n)) w
+  pub name-short : {w : List ℕ} → (g .c .why ≡ 0 → ⊥) → Came (read (name t hi) (0, 0) (bitOf s) (a .c .end) (a .c .at)) a w (at (g .c) (g .c .why / 16)) w
   unfolding read
   name-short h = rw name-width (came-short o n g p named h)
 
-  pub name-over : {c : Cursor} {w : List ℕ} → g .c .why ≡ 0 → hi < g .v → c ≡ stopped (g .c) 5 1 → Came (read (name t hi) (0, 0) (bitOf s) (a .c .end) (a .c .at)) a w (at c (a .n)) w
+  pub name-over : {c : Cursor} {w : List ℕ} → g .c .why ≡ 0 → hi < g .v → c ≡ stopped (g .c) 5 1 → Came (read (name t hi) (0, 0) (bitOf s) (a .c .end) (a .c .at)) a w (at c 0) w
   unfolding read guard stopped
   name-over {c} z l i =
       let y = there o n g p z in
@@ -92,7 +92,7 @@ module _ {s : List ℕ} {a : Step} (o : Open s a) (t hi n : ℕ) (g : Got) (b : 
       let u : c ≡ put (g .c) (g .c .at) 5 (or (g .c .marks) 1) = i ∙ rw (eq-eqb (g .c .why) 0 z) in
       rw name-width
       (came-pull o n g p named z
-      (rw (lt-leb (g .v) (extent 0 hi) x) (came-stopped bad (mark 1) (λ f. omega arith) (rw (y .cursor) (y .room)) (rw u refl) (rw (u, y .cursor) refl) refl)))
+      (rw (lt-leb (g .v) (extent 0 hi) x) (came-stopped bad (mark 1) (λ f. omega arith) (rw (y .cursor) (y .room)) (rw u refl) refl (rw (u, y .cursor) refl) refl)))
 
   pub name-in : {k : ℕ} {w w′ : List ℕ} → g .c .why ≡ 0 → g .v ≤ hi → Put w w′ (a .n) k (rec t 0 (g .v) 0 (a .c .at)) → Came (read (name t hi) (0, 0) (bitOf s) (a .c .end) (a .c .at)) a w (at (g .c) k) w′
   unfolding read guard

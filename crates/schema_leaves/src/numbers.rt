@@ -21,7 +21,10 @@ pub fn take_number(s: &[u8], words: &mut [u64], at: Step, tag: u64, lo: u64, hi:
     let g = bits(s, at.c, bits_for(d));
     let c = g.c;
     if c.why != 0 {
-        return Step { c: c, n: n };
+        return Step {
+            c: c,
+            n: (c.why / 16) as usize,
+        };
     }
     let m = emit(words, n, tag, std::num::wrapping_add_u64(lo, g.v), 0, from);
     if d < g.v {
@@ -41,11 +44,14 @@ pub fn take_name(s: &[u8], words: &mut [u64], at: Step, tag: u64, hi: u64) -> St
     let g = bits(s, at.c, bits_for(hi));
     let c = g.c;
     if c.why != 0 {
-        return Step { c: c, n: n };
+        return Step {
+            c: c,
+            n: (c.why / 16) as usize,
+        };
     }
     if hi < g.v {
         let e = stop(c, 5, 1);
-        return Step { c: e, n: n };
+        return Step { c: e, n: 0 };
     }
     let m = emit(words, n, tag, g.v, 0, from);
     Step { c: c, n: m }

@@ -1,6 +1,7 @@
 // Texts, and fixed bit counts.
 ghost use mathlib.Core.Path.{_≡_};
 ghost use Prim.Native.Nat.{_+_, _*_, _≤_, _<_, _^_};
+ghost use lib.Dec.{leb};
 ghost use lib.ListN.{length};
 ghost use Rattle.x691.specs.Bits.{bitOf};
 ghost use Rattle.atn.specs.Format.{text, first, span};
@@ -12,14 +13,13 @@ use character_strings::Text;
 use cursor::place::Cursor;
 use cursor::place::bits;
 use cursor::place::mark;
-use cursor::place::ran_out;
 use cursor::place::stop;
 use per::width::bits_for;
 use tell::tell_text;
 
 // A text of lo to hi characters of seven bits. Without room for all the reading ran out behind the last whole one; above the most it has mark 1.
 pub fn take_text(s: &[u8], words: &mut [u64], at: Step, tag: u64, lo: u64, hi: u64) -> Step
-    requires { ⌜ Open (now s) at × (lo ≤ hi) × (hi < 1048576) ⌝ }
+    requires { ⌜ Open (now s) at × (lo ≤ hi) ⌝ }
     ensures { λ r. ⌜ Came (read (text tag 128 (first 0) lo hi) (0, 0) (bitOf (now (s .entry))) (at .c .end) (at .c .at)) at (now (words .entry)) r (now (words .exit)) ⌝ }
 {
     let n = at.n;
@@ -27,25 +27,29 @@ pub fn take_text(s: &[u8], words: &mut [u64], at: Step, tag: u64, lo: u64, hi: u
     let g = bits(s, at.c, bits_for(hi - lo));
     let c = g.c;
     if c.why != 0 {
-        return Step { c: c, n: n };
+        return Step {
+            c: c,
+            n: (c.why / 16) as usize,
+        };
     }
-    // of 20 bits at most, so the remainder is the number
-    let size = lo + g.v % 1048576;
-    let len = size as usize;
     let from = c.at;
     let end = c.end;
     let left = end - from;
     let room = left / 7;
-    if room < len {
-        let why = ran_out(7 - left % 7);
+    if !holds(room as u64, lo, g.v) {
         let d = Cursor {
             at: from + 7 * room,
             end: end,
-            why: why,
+            why: 4,
             marks: c.marks,
         };
-        return Step { c: d, n: n };
+        return Step {
+            c: d,
+            n: 7 - left % 7,
+        };
     }
+    let size = lo + g.v;
+    let len = size as usize;
     let m = tell_letters(words, n, tag, start, s, from, len);
     let d = Cursor {
         at: from + 7 * len,
@@ -58,6 +62,16 @@ pub fn take_text(s: &[u8], words: &mut [u64], at: Step, tag: u64, lo: u64, hi: u
         return Step { c: e, n: m };
     }
     Step { c: d, n: m }
+}
+
+// Whether there is room for the fewest and so many more, whose sum may be above every word.
+fn holds(room: u64, fewest: u64, more: u64) -> bool
+    ensures { λ r. ⌜ r ≡ leb (fewest + more) room ⌝ }
+{
+    if room < fewest {
+        return false;
+    }
+    more <= room - fewest
 }
 
 // The characters from `at` on, eight to a record, with their number as the second number. The text starts at `start`, where its size is.
@@ -108,11 +122,14 @@ fn eight(s: &[u8], at: usize, k: usize) -> u64
     spare[2]
 }
 
-// n bits, told by their place and number.
+// n bits, told by their place and number; where there are none nothing is told.
 pub fn take_bits(s: &[u8], words: &mut [u64], at: Step, tag: u64, n: u64) -> Step
-    requires { ⌜ Open (now s) at × (1 ≤ n) × (n < 1048576) ⌝ }
+    requires { ⌜ Open (now s) at ⌝ }
     ensures { λ r. ⌜ Came (read (span tag 1 n n) (0, 0) (bitOf (now (s .entry))) (at .c .end) (at .c .at)) at (now (words .entry)) r (now (words .exit)) ⌝ }
 {
+    if n == 0 {
+        return at;
+    }
     let c = at.c;
     let m = at.n;
     let from = c.at;
@@ -120,8 +137,8 @@ pub fn take_bits(s: &[u8], words: &mut [u64], at: Step, tag: u64, n: u64) -> Ste
     let k = n as usize;
     let left = end - from;
     if left < k {
-        let e = stop(c, ran_out(k - left), 0);
-        return Step { c: e, n: m };
+        let e = stop(c, 4, 0);
+        return Step { c: e, n: k - left };
     }
     let d = Cursor {
         at: from + k,

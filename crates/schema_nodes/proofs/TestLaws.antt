@@ -34,58 +34,30 @@ module _ (k b c : ℕ) where
   unfolding kind-fits
   name-fits r q h = rw q h
 
-  pub text-fits : k ≡ 2 → c < 1048576 → leb b c ≡ kind-fits k b c
+  pub text-fits : k ≡ 2 → leb b c ≡ kind-fits k b c
   unfolding kind-fits
-  text-fits q l = rw (q, lt-ltb c 1048576 l) (go (leb b c))
-    where
-      go : (t : Bool) → t ≡ t && true
-      go true = refl
-      go false = refl
-
-  pub text-long : k ≡ 2 → 1048576 ≤ c → false ≡ kind-fits k b c
-  unfolding kind-fits
-  text-long q l = rw (q, le-ltb c 1048576 l) (go (leb b c))
-    where
-      go : (t : Bool) → false ≡ t && false
-      go true = refl
-      go false = refl
-
-  pub bits-fit : k ≡ 3 → b < 1048576 → leb 1 b ≡ kind-fits k b c
-  unfolding kind-fits
-  bits-fit q l = rw (q, lt-ltb b 1048576 l) (go (leb 1 b))
-    where
-      go : (t : Bool) → t ≡ t && true
-      go true = refl
-      go false = refl
-
-  pub bits-long : k ≡ 3 → 1048576 ≤ b → false ≡ kind-fits k b c
-  unfolding kind-fits
-  bits-long q l = rw (q, le-ltb b 1048576 l) (go (leb 1 b))
-    where
-      go : (t : Bool) → false ≡ t && false
-      go true = refl
-      go false = refl
+  text-fits q = rw q refl
 
   pub choice-fits : k ≡ 5 → leb 1 c ≡ kind-fits k b c
   unfolding kind-fits
   choice-fits q = rw q refl
 
-pub other-fits : (k b c : ℕ) → (k ≡ 0 → ⊥) → (k ≡ 1 → ⊥) → (k ≡ 2 → ⊥) → (k ≡ 3 → ⊥) → (k ≡ 5 → ⊥) → ltb k 13 ≡ kind-fits k b c
+pub other-fits : (k b c : ℕ) → (k ≡ 0 → ⊥) → (k ≡ 1 → ⊥) → (k ≡ 2 → ⊥) → (k ≡ 5 → ⊥) → ltb k 13 ≡ kind-fits k b c
 unfolding kind-fits
-other-fits zero b c n₀ n₁ n₂ n₃ n₅ = absurd (n₀ refl)
-other-fits (suc zero) b c n₀ n₁ n₂ n₃ n₅ = absurd (n₁ refl)
-other-fits (suc (suc zero)) b c n₀ n₁ n₂ n₃ n₅ = absurd (n₂ refl)
-other-fits (suc (suc (suc zero))) b c n₀ n₁ n₂ n₃ n₅ = absurd (n₃ refl)
-other-fits (suc (suc (suc (suc zero)))) b c n₀ n₁ n₂ n₃ n₅ = refl
-other-fits (suc (suc (suc (suc (suc zero))))) b c n₀ n₁ n₂ n₃ n₅ = absurd (n₅ refl)
-other-fits (suc (suc (suc (suc (suc (suc zero)))))) b c n₀ n₁ n₂ n₃ n₅ = refl
-other-fits (suc (suc (suc (suc (suc (suc (suc zero))))))) b c n₀ n₁ n₂ n₃ n₅ = refl
-other-fits (suc (suc (suc (suc (suc (suc (suc (suc zero)))))))) b c n₀ n₁ n₂ n₃ n₅ = refl
-other-fits (suc (suc (suc (suc (suc (suc (suc (suc (suc zero))))))))) b c n₀ n₁ n₂ n₃ n₅ = refl
-other-fits (suc (suc (suc (suc (suc (suc (suc (suc (suc (suc zero)))))))))) b c n₀ n₁ n₂ n₃ n₅ = refl
-other-fits (suc (suc (suc (suc (suc (suc (suc (suc (suc (suc (suc zero))))))))))) b c n₀ n₁ n₂ n₃ n₅ = refl
-other-fits (suc (suc (suc (suc (suc (suc (suc (suc (suc (suc (suc (suc zero)))))))))))) b c n₀ n₁ n₂ n₃ n₅ = refl
-other-fits (suc (suc (suc (suc (suc (suc (suc (suc (suc (suc (suc (suc (suc k))))))))))))) b c n₀ n₁ n₂ n₃ n₅ = let l : 13 ≤ 13 + k = omega arith in let e : suc (suc (suc (suc (suc (suc (suc (suc (suc (suc (suc (suc (suc k)))))))))))) ≡ 13 + k = omega arith in rw e (le-ltb (13 + k) 13 l)
+other-fits zero b c n₀ n₁ n₂ n₅ = absurd (n₀ refl)
+other-fits (suc zero) b c n₀ n₁ n₂ n₅ = absurd (n₁ refl)
+other-fits (suc (suc zero)) b c n₀ n₁ n₂ n₅ = absurd (n₂ refl)
+other-fits (suc (suc (suc zero))) b c n₀ n₁ n₂ n₅ = refl
+other-fits (suc (suc (suc (suc zero)))) b c n₀ n₁ n₂ n₅ = refl
+other-fits (suc (suc (suc (suc (suc zero))))) b c n₀ n₁ n₂ n₅ = absurd (n₅ refl)
+other-fits (suc (suc (suc (suc (suc (suc zero)))))) b c n₀ n₁ n₂ n₅ = refl
+other-fits (suc (suc (suc (suc (suc (suc (suc zero))))))) b c n₀ n₁ n₂ n₅ = refl
+other-fits (suc (suc (suc (suc (suc (suc (suc (suc zero)))))))) b c n₀ n₁ n₂ n₅ = refl
+other-fits (suc (suc (suc (suc (suc (suc (suc (suc (suc zero))))))))) b c n₀ n₁ n₂ n₅ = refl
+other-fits (suc (suc (suc (suc (suc (suc (suc (suc (suc (suc zero)))))))))) b c n₀ n₁ n₂ n₅ = refl
+other-fits (suc (suc (suc (suc (suc (suc (suc (suc (suc (suc (suc zero))))))))))) b c n₀ n₁ n₂ n₅ = refl
+other-fits (suc (suc (suc (suc (suc (suc (suc (suc (suc (suc (suc (suc zero)))))))))))) b c n₀ n₁ n₂ n₅ = refl
+other-fits (suc (suc (suc (suc (suc (suc (suc (suc (suc (suc (suc (suc (suc k))))))))))))) b c n₀ n₁ n₂ n₅ = let l : 13 ≤ 13 + k = omega arith in let e : suc (suc (suc (suc (suc (suc (suc (suc (suc (suc (suc (suc (suc k)))))))))))) ≡ 13 + k = omega arith in rw e (le-ltb (13 + k) 13 l)
 
 -- a test of every number below n, made one after another
 module _ (P : ℕ → Bool) where

@@ -45,16 +45,7 @@ fn kind_fits(n: Node) -> bool
         return range_fits(0, b);
     }
     if n.kind == 2 {
-        if c < 1048576 {
-            return b <= c;
-        }
-        return false;
-    }
-    if n.kind == 3 {
-        if b < 1048576 {
-            return 1 <= b;
-        }
-        return false;
+        return b <= c;
     }
     if n.kind == 5 {
         return 1 <= c;

@@ -40,9 +40,8 @@ pub fn refuse(at: Step, marks: u64) -> Step
     requires { ⌜ at .c .why ≡ 0 ⌝ }
     ensures { λ r. ⌜ Refuses marks at r ⌝ }
 {
-    let n = at.n;
     let c = stop(at.c, 5, marks);
-    Step { c: c, n: n }
+    Step { c: c, n: 0 }
 }
 
 // A part that is known to be present and not read: a record and mark 4.

@@ -26,7 +26,7 @@ use Rattle.capped_records.specs.Place.{counted, place}
 use Rattle.capped_records.proofs.PlaceLaws.{place-front}
 use Rattle.schema_leaves.specs.declared.Step.{Step}
 use Rattle.schema_leaves.specs.Came.{Open, Came, went, failed}
-use Rattle.schema_leaves.proofs.CameLaws.{at}
+use Rattle.schema_leaves.proofs.CameLaws.{at, says-why}
 use Rattle.schema_walk.specs.Ready.{Ready}
 
 abbrev pub start : List ℕ → Step
@@ -48,16 +48,13 @@ module _ (N s : List ℕ) where
   abbrev Frame : List ℕ → Step → List ℕ → Type 0
   Frame v z v′ = Came (Whole (length s * 8)) (start s) v z v′
 
-  pub frame-stops : {v v′ : List ℕ} {z : Step} (w : List ℕ) → Frame v z v′ → (z .c .why ≡ 0 → ⊥) → _≡_ {A = Outcome} (refused (z .c .why % 16) (z .c .at) 0 (z .c .why / 16), w) (capped (settle (readFrame (meaning N) s) w))
+  pub frame-stops : {v v′ : List ℕ} {z : Step} (w : List ℕ) → Frame v z v′ → (z .c .why ≡ 0 → ⊥) → _≡_ {A = Outcome} (refused (z .c .why % 16) (z .c .at) 0 (z .n), w) (capped (settle (readFrame (meaning N) s) w))
   unfolding reply stopped settle capped cappedAnswer
   frame-stops w (went p m R e l c n q) h = absurd (h (rw c refl))
-  frame-stops w (failed (out k) p m S n e l c q i) h =
-      let a : (4 + 16 * k) % 16 ≡ 4 = omega arith in
-      let b : (4 + 16 * k) / 16 ≡ k = omega arith in
-      rw (by-answer e, c, q, a, b)
-  frame-stops w (failed bad p m S n e l c q i) h = rw (by-answer e, c, q)
-  frame-stops w (failed lack p m S n e l c q i) h = rw (by-answer e, c, q)
-  frame-stops w (failed (quit a b d) p m S n e l c q i) h = absurd (n refl)
+  frame-stops w (failed (out k) p m S n e l c j q i) h = rw (by-answer e, c, j, q)
+  frame-stops w (failed bad p m S n e l c j q i) h = rw (by-answer e, c, j, q)
+  frame-stops w (failed lack p m S n e l c j q i) h = rw (by-answer e, c, j, q)
+  frame-stops w (failed (quit a b d) p m S n e l c j q i) h = absurd (n refl)
 
   pub frame-full : {v v′ : List ℕ} {z : Step} {k : ℕ} (w : List ℕ) → Frame v z v′ → z .c .why ≡ 0 → length w / 5 < z .n → k ≡ min (z .n * 5) top → _≡_ {A = Outcome} (refused 7 (z .c .at) k 0, w) (capped (settle (readFrame (meaning N) s) w))
   unfolding reply need counted
@@ -66,7 +63,7 @@ module _ (N s : List ℕ) where
       let b : length w < need R = omega arith in
       let d : k ≡ min (need R) top = omega arith in
       rw (by-answer e, a, d) (sym (ap capped (settle-full false p (m) R w b) ∙ cap-need 7 p (need R) 0 w))
-  frame-full w (failed y p m S n e l c q i) h f g = absurd (n (sym c ∙ h))
+  frame-full w (failed y p m S n e l c j q i) h f g = absurd (says-why y n c h)
 
   pub frame-fits-all : {v v′ w w′ : List ℕ} {z z′ : Step} → length w < 2 ^ 64 → Frame v z v′ → Frame w z′ w′ → z .c .why ≡ 0 → z .n ≤ length w / 5 → _≡_ {A = Outcome} (accepted false (z .c .at) (z .c .marks) (z .n), w′) (capped (settle (readFrame (meaning N) s) w))
   unfolding reply need counted
@@ -78,8 +75,8 @@ module _ (N s : List ℕ) where
       let i : need R ≤ length w = omega arith in
       let j : w′ ≡ flat R ++ drop (need R) w = q′ ∙ ap (λ S. place w 0 S) r ∙ place-front w R i in
       rw (by-answer e, a, b, d, j) (sym (ap capped (settle-fits false p m R w i) ∙ cap-same false p m (length R) (flat R ++ drop (need R) w)))
-  frame-fits-all t (went p m R e l c n q) (failed y p′ m′ S n′ e′ l′ c′ q′ i) h f = absurd (let y : ok p R m ≡ stop y p′ S m′ = sym e ∙ e′ in let u : _≡_ {A = ℕ} 0 1 = cc in omega arith)
-  frame-fits-all t (failed y p m S n e l c q i) x h f = absurd (n (sym c ∙ h))
+  frame-fits-all t (went p m R e l c n q) (failed y p′ m′ S n′ e′ l′ c′ j′ q′ i) h f = absurd (let y : ok p R m ≡ stop y p′ S m′ = sym e ∙ e′ in let u : _≡_ {A = ℕ} 0 1 = cc in omega arith)
+  frame-fits-all t (failed y p m S n e l c j q i) x h f = absurd (says-why y n c h)
 
 ---------------------------------------------------------------- the tests before it
 

@@ -55,7 +55,7 @@ fn answer(frame: &[u8], nodes: &[u64], words: &mut [u64]) -> Answer
     let c = tried.c;
     let count = tried.n;
     if c.why != 0 {
-        return refused(c.why % 16, c.at, 0, (c.why / 16) as usize);
+        return refused(c.why % 16, c.at, 0, count);
     }
     if words.len() / WORDS < count {
         return refused(7, c.at, words_for(count), 0);

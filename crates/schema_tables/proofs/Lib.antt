@@ -1,4 +1,5 @@
 pub mod Capped
+pub mod Ranges
 pub mod Demands
 pub mod Depth
 pub mod Agreement

@@ -24,14 +24,14 @@ raised x = (x + 9223372036854775808) % 18446744073709551616
 unfoldable pub range-fits : ℕ → ℕ → Bool
 range-fits lo hi = leb (raised lo) (raised hi)
 
--- a known kind whose range is not empty; no frame has texts or bit strings of 1,048,576 units, and they count as empty
+-- a known kind whose range is not empty; a fixed bit count is one number, and no range
 unfoldable pub kind-fits : ℕ → ℕ → ℕ → Bool
 kind-fits kind b c =
     getD
     (range-fits b c
     ∷ range-fits 0 b
-    ∷ (leb b c && ltb c 1048576)
-    ∷ (leb 1 b && ltb b 1048576)
+    ∷ leb b c
+    ∷ true
     ∷ true
     ∷ leb 1 c
     ∷ true

@@ -1,7 +1,7 @@
 -- A choice, an extension bit, a part with a record before it.
 use mathlib.Core.Path.{_≡_, refl, sym, ap, _∙_}
 use mathlib.Core.List.{List, [], _∷_}
-use Prim.Native.Nat.{ℕ, zero, suc, _+_, _-_, _*_, _≤_, _<_}
+use Prim.Native.Nat.{ℕ, zero, suc, _+_, _-_, _*_, _/_, _≤_, _<_}
 use native.Mathlib.Nat.{add-zero, add-suc, suc-add}
 use native.Mathlib.Omega.{arith}
 use lib.ListN.{length}
@@ -65,7 +65,7 @@ module _ (F : ℕ → Fmt) (t first n : ℕ) (s : List ℕ) {a : Step} (o : Open
   bits-are : width (highest (alternativesOf (alternativesFrom F first n))) ≡ b
   bits-are = alternatives-width F first n ∙ sym q
 
-  pub index-short : {w : List ℕ} → (g .c .why ≡ 0 → ⊥) → Choice w (at (g .c) (a .n)) w
+  pub index-short : {w : List ℕ} → (g .c .why ≡ 0 → ⊥) → Choice w (at (g .c) (g .c .why / 16)) w
   unfolding read
   index-short h = rw bits-are (came-short o b g p chosen h)
 
@@ -87,11 +87,11 @@ module _ (F : ℕ → Fmt) (t first n : ℕ) (s : List ℕ) {a : Step} (o : Open
     pub index-in : {v : Step} {w′ : List ℕ} → g .v < n → Came (read (F (first + g .v)) (0, 0) (bitOf s) (g .c .end) (g .c .at)) (at (g .c) m) w₁ v w′ → Choice w v w′
     index-in l x = onward (came-same (pick-in F (0, 0) (bitOf s) (g .c .end) (g .c .at) first n (g .v) l) x)
 
-    pub index-out : {d : Cursor} → n ≤ g .v → d ≡ stopped (g .c) 5 1 → Choice w (at d m) w₁
+    pub index-out : {d : Cursor} → n ≤ g .v → d ≡ stopped (g .c) 5 1 → Choice w (at d 0) w₁
     unfolding stopped
     index-out {d} l e =
         let u : d ≡ put (g .c) (g .c .at) 5 (or (g .c .marks) 1) = e ∙ rw (eq-eqb (g .c .why) 0 z) in
-        onward (came-same (pick-out F (0, 0) (bitOf s) (g .c .end) (g .c .at) first n (g .v) l) (came-stopped bad (mark 1) (λ f. omega arith) (index-open .inside .0) (rw u refl) (rw u refl) refl))
+        onward (came-same (pick-out F (0, 0) (bitOf s) (g .c .end) (g .c .at) first n (g .v) l) (came-stopped bad (mark 1) (λ f. omega arith) (index-open .inside .0) (rw u refl) refl (rw u refl) refl))
 
 ---------------------------------------------------------------- an extension bit
 
@@ -102,7 +102,7 @@ module _ (f : Fmt) (t : ℕ) (s : List ℕ) {a : Step} (o : Open s a) (g : Got) 
   abbrev forked : ℕ → Ans
   forked v = fork v (read f (0, 0) (bitOf s) (a .c .end) (a .c .at + 1)) (then (ok (a .c .at + 1) [] (mark 2)) λ r. read (extended t) (0, 0) (bitOf s) (a .c .end) r)
 
-  pub bit-short : {w : List ℕ} → (g .c .why ≡ 0 → ⊥) → Extension w (at (g .c) (a .n)) w
+  pub bit-short : {w : List ℕ} → (g .c .why ≡ 0 → ⊥) → Extension w (at (g .c) (g .c .why / 16)) w
   unfolding read
   bit-short h = came-short o 1 g p forked h
 

@@ -11,7 +11,7 @@ use Rattle.atn.specs.Reading.{Ans, Rec, rec, ok, stop, or, mark, then, fork, fe
 use Rattle.atn.proofs.Marks.{or-nil}
 use Rattle.atn.proofs.Steps.{fetch-go, fetch-no}
 use Rattle.cursor.specs.declared.place.Cursor.{Cursor}
-use Rattle.cursor.specs.Place.{number, put}
+use Rattle.cursor.specs.Place.{put}
 use Rattle.schema_tables.specs.Entry.{top}
 use Rattle.schema_tables.specs.Nodes.{membersFrom}
 use Rattle.schema_nodes.specs.declared.node.Node.{Node}
@@ -109,11 +109,11 @@ module _ (F : ℕ → Fmt) (N : List ℕ) (first count : ℕ) (s : List ℕ) {a 
   abbrev Sequence : List ℕ → Step → List ℕ → Type 0
   Sequence w z w′ = Came (read (seq fs) (0, 0) (bitOf s) (a .c .end) (a .c .at)) a w z w′
 
-  pub bits-short : {z : Step} {w : List ℕ} → a .c .end - a .c .at < bits → z .c .why ≡ number (out 1) → z .c .at ≡ a .c .end → Sequence w z w
+  pub bits-short : {z : Step} {w : List ℕ} → a .c .end - a .c .at < bits → z .c .why ≡ 4 → z .n ≡ 1 → z .c .at ≡ a .c .end → Sequence w z w
   unfolding read
-  bits-short l e q =
+  bits-short l e k q =
       failed (out 1) (a .c .at + (a .c .end - a .c .at)) (unreadMarks fs (within (bitOf s) (a .c .end)) (a .c .at)) [] (λ f. omega arith)
-      (fetch-no (bitOf s) (a .c .end) (a .c .at) (flags fs) _ _ (omega (arith, p .bits F, o .inside .0))) (omega (arith, o .inside .0)) e (q ∙ omega (arith, o .inside .0)) refl
+      (fetch-no (bitOf s) (a .c .end) (a .c .at) (flags fs) _ _ (omega (arith, p .bits F, o .inside .0))) (omega (arith, o .inside .0)) (rw e refl) k (q ∙ omega (arith, o .inside .0)) refl
 
   pub bits-ahead : bits ≤ a .c .end - a .c .at → Ahead N first count (a .c .at) (length s * 8)
   bits-ahead l = record { room = λ G. omega (arith, p .bits G, o .inside .0, o .inside .1) }

@@ -101,10 +101,10 @@ fn read_sequence(
         let d = Cursor {
             at: end,
             end: end,
-            why: 20,
+            why: 4,
             marks: c.marks,
         };
-        return Step { c: d, n: n };
+        return Step { c: d, n: 1 };
     }
     let marks = unread_marks(s, nodes, first, count, from);
     let d = Cursor {
@@ -205,7 +205,10 @@ fn read_choice(
     let g = bits(s, at.c, bits_for((count - 1) as u64));
     let c = g.c;
     if c.why != 0 {
-        return Step { c: c, n: n };
+        return Step {
+            c: c,
+            n: (c.why / 16) as usize,
+        };
     }
     let index = g.v as usize;
     let m = emit(words, n, tag, g.v, 0, from);
@@ -213,7 +216,7 @@ fn read_choice(
         return read_node(s, nodes, words, first + index, left, Step { c: c, n: m });
     }
     let d = stop(c, 5, 1);
-    Step { c: d, n: m }
+    Step { c: d, n: 0 }
 }
 
 // An extension bit: node k behind a clear one; a set one is mark 2 and "(extended)".
@@ -233,7 +236,10 @@ fn read_extension(
     let g = bits(s, at.c, 1);
     let c = g.c;
     if c.why != 0 {
-        return Step { c: c, n: n };
+        return Step {
+            c: c,
+            n: (c.why / 16) as usize,
+        };
     }
     if g.v == 0 {
         return read_node(s, nodes, words, k, left, Step { c: c, n: n });

@@ -2,12 +2,16 @@
 // The file `stdout` is written by hand from docs/LANDING-15.md.
 mod tables; // tables.rt: the tables
 mod frames; // frames.rt: the frames
+mod ranges; // ranges.rt: ranges of more than any frame holds
 mod refused; // refused.rt: the tables that are refused
 
 fn main() {
     frames::of_the_shop();
     frames::of_the_procedure();
     frames::without_room();
+    ranges::of_texts();
+    ranges::of_bits();
+    ranges::lacked();
     refused::kinds();
     refused::numbers();
     refused::depths();

@@ -22,8 +22,6 @@ pub fn kinds() {
         &[0, 1, 18446744073709551614, 18446744073709551615],
     );
     try_table(b"text of 3..2", &[2, 1, 3, 2]);
-    try_table(b"text of 0..1048576", &[2, 1, 0, 1048576]);
-    try_table(b"no bits", &[3, 1, 0, 0]);
     try_table(b"choice of none", &[5, 1, 1, 0]);
     try_table(b"five words", &[8, 0, 0, 0, 8]);
     try_table(b"kind 13 behind the root", &[8, 0, 0, 0, 13, 0, 0, 0]);

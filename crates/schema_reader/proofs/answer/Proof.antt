@@ -18,7 +18,7 @@ read-node-requires : tie.Need-read-node-requires
 read-node-requires c κs = (at-start (c .before .before .before .before .args .frame .now) (c .before .before .before .before .pre .0), c .before .before .before .before .pre .1, omega arith)
 
 returns : tie.Need-returns
-returns c = record { is = rw (c .refused .ensures) (frame-stops (c .before .before .before .before .before .before .before .before .before .before .before .before .args .nodes .now) (c .before .before .before .before .before .before .before .before .before .before .before .before .args .frame .now) (c .before .before .before .before .before .before .before .before .before .before .before .before .args .words .now) (c .before .before .before .before .before .before .before .read-node .ensures) (c .before .before .before .if1 .taken)) }
+returns c = record { is = rw (c .refused .ensures) (frame-stops (c .before .before .before .before .before .before .before .before .before .before .before .args .nodes .now) (c .before .before .before .before .before .before .before .before .before .before .before .args .frame .now) (c .before .before .before .before .before .before .before .before .before .before .before .args .words .now) (c .before .before .before .before .before .before .read-node .ensures) (c .before .before .if1 .taken)) }
 
 returns-2 : tie.Need-returns-2
 returns-2 c = record { is = rw (c .refused2 .ensures) (frame-full (c .before .before .before .before .before .before .before .before .before .before .before .before .args .nodes .now) (c .before .before .before .before .before .before .before .before .before .before .before .before .args .frame .now) (c .before .before .before .before .before .before .before .before .before .before .before .before .args .words .now) (c .before .before .before .before .before .before .before .read-node .ensures) (c .before .before .before .if1 .left) (c .before .before .if2 .taken) (c .before .words-for .ensures)) }

@@ -5,7 +5,7 @@ use Rattle.schema_leaves.proofs.numbers.take_name.Statement.{statement}
 use Rattle.schema_leaves.proofs.numbers.take_name.Tie as tie
 
 returns : tie.Need-returns
-returns c = name-short (c .before .before .before .before .before .before .before .pre) (c .before .before .before .before .before .before .before .args .tag) (c .before .before .before .before .before .before .before .args .hi) _ (c .before .before .before .bits .result) (search needs) (c .before .before .before .before .bits-for .ensures .0) (c .before .before .before .bits .ensures) (c .if1 .taken)
+returns c = name-short (c .before .before .before .before .before .before .before .before .pre) (c .before .before .before .before .before .before .before .before .args .tag) (c .before .before .before .before .before .before .before .before .args .hi) _ (c .before .before .before .before .bits .result) (search needs) (c .before .before .before .before .before .bits-for .ensures .0) (c .before .before .before .before .bits .ensures) (c .before .if1 .taken)
 
 returns-2 : tie.Need-returns-2
 returns-2 c = name-over (c .before .before .before .before .before .before .before .before .before .before .pre) (c .before .before .before .before .before .before .before .before .before .before .args .tag) (c .before .before .before .before .before .before .before .before .before .before .args .hi) _ (c .before .before .before .before .before .before .bits .result) (search needs) (c .before .before .before .before .before .before .before .bits-for .ensures .0) (c .before .before .before .before .before .before .bits .ensures) (c .before .before .before .if1 .left) (c .before .if2 .taken) (c .stop .ensures)

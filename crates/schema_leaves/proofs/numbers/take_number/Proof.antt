@@ -6,7 +6,7 @@ use Rattle.schema_leaves.proofs.numbers.take_number.Statement.{statemen
 use Rattle.schema_leaves.proofs.numbers.take_number.Tie as tie
 
 returns : tie.Need-returns
-returns c = number-short (c .before .before .before .before .before .before .before .before .pre) (c .before .before .before .before .before .before .before .before .args .tag) (c .before .before .before .before .before .before .before .before .args .lo) (c .before .before .before .before .before .before .before .before .args .hi) _ _ (c .before .before .before .bits .result) (extent-of (c .before .before .before .before .before .before .before .before .args .lo) (c .before .before .before .before .before .before .before .before .args .hi) _ (search needs) (search needs) (c .before .before .before .before .before .wrapping-sub-u64 .ensures)) (c .before .before .before .before .bits-for .ensures .0) (c .before .before .before .bits .ensures) (c .if1 .taken)
+returns c = number-short (c .before .before .before .before .before .before .before .before .before .pre) (c .before .before .before .before .before .before .before .before .before .args .tag) (c .before .before .before .before .before .before .before .before .before .args .lo) (c .before .before .before .before .before .before .before .before .before .args .hi) _ _ (c .before .before .before .before .bits .result) (extent-of (c .before .before .before .before .before .before .before .before .before .args .lo) (c .before .before .before .before .before .before .before .before .before .args .hi) _ (search needs) (search needs) (c .before .before .before .before .before .before .wrapping-sub-u64 .ensures)) (c .before .before .before .before .before .bits-for .ensures .0) (c .before .before .before .before .bits .ensures) (c .before .if1 .taken)
 
 same-length : tie.Need-same-length
 same-length c = rw (c .before .before .before .before .before .emit .ensures .words) (one-length _ _ _)

@@ -1,5 +1,5 @@
 use Rattle.schema_leaves.proofs.CameLaws.{came-length}
-use Rattle.schema_parts.proofs.LeafLaws.{number-format, name-format, text-format, bits-format, text-sizes, bits-sizes, last-leaf, read-as}
+use Rattle.schema_parts.proofs.LeafLaws.{number-format, name-format, text-format, bits-format, text-sizes, last-leaf, read-as}
 use borrow.Author.Needs.{needs}
 use Rattle.schema_parts.proofs.leaf.read_leaf.Statement.{statement}
 use Rattle.schema_parts.proofs.leaf.read_leaf.Tie as tie
@@ -23,7 +23,7 @@ returns-2 : tie.Need-returns-2
 returns-2 c = record { leaf = λ F N k. read-as (c .before .before .before .before .before .before .before .before .args .s .now) (name-format _ (c .before .before .before .before .before .before .before .before .args .node .a) (c .before .before .before .before .before .before .before .before .args .node .b) (c .before .before .before .before .before .before .before .before .args .node .c) F N k (c .before .before .before .before .if2 .taken)) (c .before .before .take-name .ensures) }
 
 take-text-requires : tie.Need-take-text-requires
-take-text-requires c κs = let z = text-sizes _ (c .before .before .before .before .before .before .args .node .b) (c .before .before .before .before .before .before .args .node .c) (c .before .if3 .taken) (c .before .before .before .before .before .before .pre .2) in (c .before .before .before .before .before .before .pre .0, z .0, z .1)
+take-text-requires c κs = (c .before .before .before .before .before .before .pre .0, text-sizes _ (c .before .before .before .before .before .before .args .node .b) (c .before .before .before .before .before .before .args .node .c) (c .before .if3 .taken) (c .before .before .before .before .before .before .pre .2))
 
 same-length-3 : tie.Need-same-length-3
 same-length-3 c = came-length (c .before .before .take-text .ensures)
@@ -32,7 +32,7 @@ returns-3 : tie.Need-returns-3
 returns-3 c = record { leaf = λ F N k. read-as (c .before .before .before .before .before .before .before .before .before .args .s .now) (text-format _ (c .before .before .before .before .before .before .before .before .before .args .node .a) (c .before .before .before .before .before .before .before .before .before .args .node .b) (c .before .before .before .before .before .before .before .before .before .args .node .c) F N k (c .before .before .before .before .if3 .taken)) (c .before .before .take-text .ensures) }
 
 take-bits-requires : tie.Need-take-bits-requires
-take-bits-requires c κs = let z = bits-sizes _ (c .before .before .before .before .before .before .args .node .b) (c .before .before .before .before .before .before .args .node .c) (last-leaf _ (c .before .before .before .before .before .before .pre .1) (c .before .before .before .if1 .left) (c .before .before .if2 .left) (c .before .if3 .left)) (c .before .before .before .before .before .before .pre .2) in (c .before .before .before .before .before .before .pre .0, z .0, z .1)
+take-bits-requires c κs = c .before .before .before .before .before .before .pre .0
 
 same-length-4 : tie.Need-same-length-4
 same-length-4 c = came-length (c .before .before .take-bits .ensures)

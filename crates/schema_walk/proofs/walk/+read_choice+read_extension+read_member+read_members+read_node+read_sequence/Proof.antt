@@ -143,8 +143,8 @@ read-choice-bits-requires t c κs = c .bits-for .ensures .1
 
 read-choice-returns : (t : ℕ) → read-choice-lts.Need-returns (bits-for-reads.Asked, bits-for-reads.Learnt, bits-reads.Asked, bits-reads.Learnt, emit-reads.Asked, emit-reads.Learnt, read-node-below t, read-node.Post, stop-reads.Asked, stop-reads.Learnt) (read-choice-at t) read-choice.Post
 read-choice-returns t c =
-    let e = c .before .before .before .before .before .before .before .before in
-    index-short (λ j. formatAt (e .args .left) (e .args .nodes .now) j) (e .args .tag) (e .args .first) (e .args .count) (e .args .s .now) (e .pre .1 .0) (c .before .before .before .bits .result) (c .before .before .before .before .bits-for .ensures .0) (c .before .before .before .bits .ensures) (c .if1 .taken)
+    let e = c .before .before .before .before .before .before .before .before .before in
+    index-short (λ j. formatAt (e .args .left) (e .args .nodes .now) j) (e .args .tag) (e .args .first) (e .args .count) (e .args .s .now) (e .pre .1 .0) (c .before .before .before .before .bits .result) (c .before .before .before .before .before .bits-for .ensures .0) (c .before .before .before .before .bits .ensures) (c .before .if1 .taken)
 
 read-choice-add-read-node : (t : ℕ) → read-choice-lts.Need-add-read-node (bits-for-reads.Asked, bits-for-reads.Learnt, bits-reads.Asked, bits-reads.Learnt, emit-reads.Asked, emit-reads.Learnt, read-node-below t, read-node.Post, stop-reads.Asked, stop-reads.Learnt) (read-choice-at t) read-choice.Post
 read-choice-add-read-node t c = omega (arith, c .before .before .before .before .before .before .before .before .before .before .before .before .before .before .pre .1 .3, c .before .if2 .taken)
@@ -175,8 +175,8 @@ read-extension-bits-requires t c κs = omega arith
 
 read-extension-returns : (t : ℕ) → read-extension-lts.Need-returns (bits-reads.Asked, bits-reads.Learnt, read-node-below t, read-node.Post, mark-reads.Asked, mark-reads.Learnt, emit-reads.Asked, emit-reads.Learnt) (read-extension-at t) read-extension.Post
 read-extension-returns t c =
-    let e = c .before .before .before .before .before .before .before in
-    bit-short (formatAt (e .args .left) (e .args .nodes .now) (e .args .k)) (e .args .tag) (e .args .s .now) (e .pre .1 .0) (c .before .before .before .bits .result) (c .before .before .before .bits .ensures) (c .if1 .taken)
+    let e = c .before .before .before .before .before .before .before .before in
+    bit-short (formatAt (e .args .left) (e .args .nodes .now) (e .args .k)) (e .args .tag) (e .args .s .now) (e .pre .1 .0) (c .before .before .before .before .bits .result) (c .before .before .before .before .bits .ensures) (c .before .if1 .taken)
 
 read-extension-read-node-requires : (t : ℕ) → read-extension-lts.Need-read-node-requires (bits-reads.Asked, bits-reads.Learnt, read-node-below t, read-node.Post, mark-reads.Asked, mark-reads.Learnt, emit-reads.Asked, emit-reads.Learnt) (read-extension-at t) read-extension.Post
 read-extension-read-node-requires t c κs =
@@ -427,7 +427,7 @@ read-sequence-sub-if1 t c = c .before .before .before .before .before .pre .1 .0
 read-sequence-returns : (t : ℕ) → read-sequence-lts.Need-returns (presence-bits-reads.Asked, presence-bits-reads.Learnt, unread-marks-reads.Asked, unread-marks-reads.Learnt, read-members-below t, read-members.Post) (read-sequence-at t) read-sequence.Post
 read-sequence-returns t c =
     let e = c .before .before .before .before .before .before in
-    bits-short (λ j. formatAt (e .args .left) (e .args .nodes .now) j) (e .args .nodes .now) (e .args .first) (e .args .count) (e .args .s .now) (e .pre .1 .0) (c .before .presence-bits .ensures) (c .if1 .taken) refl refl
+    bits-short (λ j. formatAt (e .args .left) (e .args .nodes .now) j) (e .args .nodes .now) (e .args .first) (e .args .count) (e .args .s .now) (e .pre .1 .0) (c .before .presence-bits .ensures) (c .if1 .taken) refl refl refl
 
 read-sequence-unread-marks-requires : (t : ℕ) → read-sequence-lts.Need-unread-marks-requires (presence-bits-reads.Asked, presence-bits-reads.Learnt, unread-marks-reads.Asked, unread-marks-reads.Learnt, read-members-below t, read-members.Post) (read-sequence-at t) read-sequence.Post
 read-sequence-unread-marks-requires t c κs =
