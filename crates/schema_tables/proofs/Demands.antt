@@ -1,21 +1,23 @@
--- "Prove once, over all tables not refused, that the reading .. keeps demand 3, and takes exactly what the table's meaning says".
+-- "Prove once, over all tables not refused, that the reading .. keeps demand 3, and takes exactly what the table's meaning says"; and requests b) and g) of 02 of such a reading.
 use mathlib.Core.Path.{_≡_, refl, sym, ap, _∙_}
 use mathlib.Core.Bool.{Bool, true, false}
 use mathlib.Core.List.{List, [], _++_}
-use Prim.Native.Nat.{ℕ, _*_, _≤_, _<_, min}
+use Prim.Native.Nat.{ℕ, _+_, _*_, _≤_, _<_, min}
 use native.Mathlib.Omega.{arith}
 use lib.ListN.{length, drop, take}
 use Rattle.atn.specs.Reading.{Rec}
 use Rattle.atn.specs.Places.{Rising}
 use Rattle.atn.specs.Entries.{Reply, accept, readFrame, Answer, accepted, refused, Outcome, flat, need, enter, frame-fits}
-use Rattle.atn.specs.Demands.{passes, Message, Shares, CutOrOut, cut, ended, Enough, NoRoom}
+use Rattle.atn.specs.Demands.{passes, Message, Shares, Longer, CutOrOut, cut, ended, Enough, NoRoom}
 use Rattle.atn.proofs.Readings.{Keeps, format-keeps}
 use Rattle.atn.proofs.Outcomes.{early}
 use Rattle.atn.proofs.Places.{frame-rising}
-use Rattle.atn.proofs.Demands.{taken, whole-again, bad-again, cut-to, words-kept, words-left, room-refused, refused-room, reach-inside, refused-inside, clean-sound, clean-complete}
+use Rattle.atn.proofs.Longer.{GoesOn, format-goes}
+use Rattle.atn.proofs.Demands.{taken, whole-again, bad-again, cut-to, words-kept, words-left, room-refused, refused-room, reach-inside, refused-inside, lacked-none, lacked-some, longer-on, clean-sound, clean-complete}
 use Rattle.schema_tables.specs.Nodes.{meaning}
 use Rattle.schema_tables.specs.Entry.{top, capped, cappedAnswer, parse-by-table}
 use Rattle.schema_tables.proofs.Capped.{Kept, kept-reads, cap-accepted, cap-refused, cap-words, cap-same, cap-need}
+use Rattle.schema_tables.proofs.Tame.{table-frank}
 
 module _ (N : List ℕ) (kept : Kept N) where
   -- the reading by the table
@@ -79,6 +81,22 @@ module _ (N : List ℕ) (kept : Kept N) where
 
   pub table-refused-inside : (s w : List ℕ) {n p k l : ℕ} {w′ : List ℕ} → parse-by-table s N w ≡ (refused n p k l, w′) → p ≤ length s * 8
   table-refused-inside s w h = refused-inside [] (λ f. F f) keeps s w (to-refused s w h .1)
+
+  -- only "ran out" has bits that were lacked, and it has some
+  pub table-lacked-none : (s w : List ℕ) {n p k l : ℕ} {w′ : List ℕ} → parse-by-table s N w ≡ (refused n p k l, w′) → (n ≡ 4 → ⊥) → l ≡ 0
+  table-lacked-none s w h = lacked-none [] (λ f. F f) keeps s w (to-refused s w h .1)
+
+  goes : GoesOn (λ s. F s)
+  goes = format-goes (meaning N) (table-frank N)
+
+  pub table-lacked-some : (s w : List ℕ) {p k l : ℕ} {w′ : List ℕ} → parse-by-table s N w ≡ (refused 4 p k l, w′) → 1 ≤ l
+  unfolding early
+  table-lacked-some s w h = lacked-some [] (λ f. F f) keeps goes refl s w (to-refused s w h .1)
+
+  -- "a frame longer by at least that many bits no longer stops at that same read": where it runs out again, it has taken the bits that were lacked
+  pub table-longer : (s t w v : List ℕ) {p k l q j i : ℕ} {w′ v′ : List ℕ} → parse-by-table s N w ≡ (refused 4 p k l, w′) → Longer s t l → parse-by-table t N v ≡ (refused 4 q j i, v′) → (length s * 8 + l ≤ q) × (p < q)
+  unfolding early
+  table-longer s t w v h g o = longer-on [] (λ f. F f) keeps goes refl s t w v (to-refused s w h .1) g (to-refused t v o .1)
 
   -- a clean answer is a message of the table's type with its records, and every such message, with room enough, is given a clean answer
   pub table-sound : (s w : List ℕ) {p k : ℕ} {w′ : List ℕ} → parse-by-table s N w ≡ (accepted false p 0 k, w′) → (R : List Rec) × Message (meaning N) s p R × (k ≡ length R) × (w′ ≡ flat R ++ drop (need R) w)

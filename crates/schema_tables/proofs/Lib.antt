@@ -1,5 +1,6 @@
 pub mod Capped
 pub mod Ranges
+pub mod Tame
 pub mod Demands
 pub mod Depth
 pub mod Agreement
