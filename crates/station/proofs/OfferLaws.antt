@@ -14,7 +14,9 @@ use Rattle.name_book.specs.declared.Added.{Added}
 use Rattle.name_book.specs.Calls.{add, Leaves}
 use Rattle.station.specs.declared.Offered.{Offered}
 use Rattle.station.specs.declared.Offered.the-variants.{Bound, Repeated, Refused}
+use Rattle.station.specs.declared.Shift.{Shift}
 use Rattle.station.specs.Offers.{Call, nameOf, entry, answered, offer}
+use Rattle.station.specs.Shifts.{counted, offer-counted}
 
 -- the call c on the book w, which answers r
 module _ (c : Call) (w : List ℕ) {r : Offered} where
@@ -35,6 +37,11 @@ module _ (c : Call) (w : List ℕ) {r : Offered} where
       pub booked : n .reach ≤ c .arrived → {a : Added} {v : List ℕ} → Leaves a v (add w (entry c)) → r ≡ answered (n .reach) a → Leaves r v (offer c w)
       unfolding offer
       booked l i a = record { is = rw (a, e, h, eq-eqb (nameOf c .number) 0 (rw e at z), le-leb (nameOf c .reach) (c .arrived) (rw e at l), ← i .is) }
+
+-- the answer is counted behind the book's
+pub then-counted : (s : Shift) (c : Call) (w : List ℕ) {f : Shift} {v : List ℕ} {a : Offered} → Leaves a v (offer c w) → f ≡ counted s a → Leaves (record { answer = a; shift = f }) v (offer-counted s c w)
+unfolding offer-counted
+then-counted s c w l e = record { is = rw (e, ← l .is) }
 
 -- what the entry of a name asks for
 pub enters : (c : Call) {n : Named} → n ≡ nameOf c → n .number ≡ 0 → (n .size ≤ 8) × (length (c .capture) < 1048576)

@@ -6,11 +6,34 @@ use Prim.Native.Nat.{ℕ, suc, _+_, _%_, _^_, _≤_, _<_}
 use native.Mathlib.Omega.{arith}
 use lib.Dec.{eqb}
 use lib.ListN.{length}
+use borrow.Author.Tests.{eqb-true}
 use Rattle.station.specs.declared.Offered.{Offered}
 use Rattle.station.specs.declared.Offered.the-variants.{Bound, Repeated, Refused}
 use Rattle.station.specs.declared.Shift.{Shift}
 use Rattle.station.specs.Offers.{Call, offer}
-use Rattle.station.specs.Shifts.{none-yet, next, isBound, isRepeated, isRefused, counted, counting, times, Turn, callsOf, answersOf}
+use Rattle.station.specs.Shifts.{none-yet, next, isBound, isRepeated, isRefused, counted, offer-counted, Turn, Day, begun, after, worked, run, callsOf, answersOf, counting, times}
+
+-- the shift of each station has counted the answers to its own calls, whosever calls stood between them
+pub counts-own : (p : ℕ) (d : Day) (ts : List Turn) → worked d ts .shift p ≡ counting (d .shift p) (answersOf p (d .book) ts)
+unfolding worked after offer-counted answersOf counting
+counts-own p d [] = refl
+counts-own p d (t ∷ ts) = counts-own p (after d t) ts ∙ go (eqb (t .station) p) refl
+  where
+    a : Offered
+    a = offer (t .made) (d .book) .0
+
+    A : List Offered
+    A = answersOf p (offer (t .made) (d .book) .1) ts
+
+    go : (b : Bool) → eqb (t .station) p ≡ b → counting (cond b (counted (d .shift (t .station)) a) (d .shift p)) A ≡ counting (d .shift p) (cond b (a ∷ A) A)
+    go true e = rw (eqb-true (t .station) p e)
+    go false e = refl
+
+-- and the book is what the calls leave
+pub same-book : (d : Day) (ts : List Turn) → worked d ts .book ≡ run (d .book) ts
+unfolding worked after offer-counted run
+same-book d [] = refl
+same-book d (t ∷ ts) = same-book (after d t) ts
 
 -- every call has one answer, and every answer is of one kind
 one-answer : (p : ℕ) (w : List ℕ) (ts : List Turn) → length (answersOf p w ts) ≡ length (callsOf p ts)
@@ -62,7 +85,7 @@ pub record Balanced (s : Shift) (calls : List Call) (A : List Offered) : Type 0 
   pub sum : s .offered ≡ s .bound + s .repeated + s .refused
 
 -- for any calls of any stations from any book; 2^64 calls of one shift are not made
-pub shift-end : (p : ℕ) (w : List ℕ) (ts : List Turn) → length (callsOf p ts) < 2 ^ 64 → Balanced (counting none-yet (answersOf p w ts)) (callsOf p ts) (answersOf p w ts)
+pub shift-end : (p : ℕ) (w : List ℕ) (ts : List Turn) → length (callsOf p ts) < 2 ^ 64 → Balanced (worked (begun w) ts .shift p) (callsOf p ts) (answersOf p w ts)
 shift-end p w ts h =
     let A = answersOf p w ts in
     let o = one-answer p w ts in
@@ -71,4 +94,4 @@ shift-end p w ts h =
     let b = counts-times isBound 0 A (omega arith) in
     let r = counts-times isRepeated 0 A (omega arith) in
     let f = counts-times isRefused 0 A (omega arith) in
-    rw (each none-yet A) (record { offered = omega (arith, all-times A); bound = omega arith; repeated = omega arith; refused = omega arith; sum = omega (arith, all-times A) })
+    rw (counts-own p (begun w) ts, each none-yet A) (record { offered = omega (arith, all-times A); bound = omega arith; repeated = omega arith; refused = omega arith; sum = omega (arith, all-times A) })

@@ -6,6 +6,7 @@ use lib.Dec.{eqb}
 use Rattle.station.specs.declared.Offered.{Offered}
 use Rattle.station.specs.declared.Offered.the-variants.{Bound, Repeated, Refused}
 use Rattle.station.specs.declared.Shift.{Shift}
+use Rattle.station.specs.declared.Outcome.{Outcome}
 use Rattle.station.specs.Offers.{Call, offer}
 
 abbrev pub none-yet : Shift
@@ -35,17 +36,38 @@ isRefused (Refused n p k) = true
 abbrev pub counted : Shift → Offered → Shift
 counted s a = record { offered = next (s .offered); bound = cond (isBound a) (next (s .bound)) (s .bound); repeated = cond (isRepeated a) (next (s .repeated)) (s .repeated); refused = cond (isRefused a) (next (s .refused)) (s .refused) }
 
--- "each counted from the calls made": the answers are counted one behind the other
-unfoldable pub counting : Shift → List Offered → Shift
-counting s [] = s
-counting s (a ∷ A) = counting (counted s a) A
+-- a call in a shift: its answer, the shift that has counted it, and what the book holds afterwards
+unfoldable pub offer-counted : Shift → Call → List ℕ → Outcome × List ℕ
+unfolding offer
+offer-counted s c w = (record { answer = offer c w .0; shift = counted s (offer c w .0) }, offer c w .1)
 
 -- a call, and the station that makes it
 pub record Turn : Type 0 where
   pub station : ℕ
   pub made : Call
 
--- "Two stations share one book": what it holds after their calls, in the order in which they are made
+-- the shifts of the stations, and their book
+pub record Day : Type 0 where
+  pub shift : ℕ → Shift
+  pub book : List ℕ
+
+-- the stations begin their shifts, with any book
+abbrev pub begun : List ℕ → Day
+begun w = record { shift = λ p. none-yet; book = w }
+
+-- a station makes a call in its shift, and goes on with the shift that it is given
+unfoldable pub after : Day → Turn → Day
+unfolding offer-counted
+after d t =
+    let o = offer-counted (d .shift (t .station)) (t .made) (d .book) in
+    record { shift = λ p. cond (eqb (t .station) p) (o .0 .shift) (d .shift p); book = o .1 }
+
+-- "Two stations share one book": after their calls, in the order in which they are made
+unfoldable pub worked : Day → List Turn → Day
+worked d [] = d
+worked d (t ∷ ts) = worked (after d t) ts
+
+-- the book alone
 unfoldable pub run : List ℕ → List Turn → List ℕ
 run w [] = w
 run w (t ∷ ts) = run (offer (t .made) w .1) ts
@@ -59,6 +81,11 @@ callsOf p (t ∷ ts) = cond (eqb (t .station) p) (t .made ∷ callsOf p ts) (cal
 unfoldable pub answersOf : ℕ → List ℕ → List Turn → List Offered
 answersOf p w [] = []
 answersOf p w (t ∷ ts) = cond (eqb (t .station) p) (offer (t .made) w .0 ∷ answersOf p (offer (t .made) w .1) ts) (answersOf p (offer (t .made) w .1) ts)
+
+-- "each counted from the calls made": the answers are counted one behind the other
+unfoldable pub counting : Shift → List Offered → Shift
+counting s [] = s
+counting s (a ∷ A) = counting (counted s a) A
 
 -- how many answers are of a kind
 unfoldable pub times : (Offered → Bool) → List Offered → ℕ

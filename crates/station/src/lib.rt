@@ -4,7 +4,7 @@ ghost use Prim.Native.Nat.{_*_};
 ghost use lib.Dec.{leb};
 ghost use Rattle.name_book.specs.Calls.{Leaves};
 ghost use Rattle.station.specs.Offers.{call, offer as Offers·offer, answered as Offers·answered};
-ghost use Rattle.station.specs.Shifts.{none-yet, next as Shifts·next, counted as Shifts·counted};
+ghost use Rattle.station.specs.Shifts.{none-yet, next as Shifts·next, counted as Shifts·counted, offer-counted};
 use forward_names::forward_name;
 use name_book::Added;
 use name_book::add_entry;
@@ -32,8 +32,33 @@ pub struct Shift {
     pub refused: u64,
 }
 
-// Offers a capture of which so many bits arrived.
+// A call's answer, and the shift that has counted it.
+pub struct Outcome {
+    pub answer: Offered,
+    pub shift: Shift,
+}
+
+// Offers a capture of which so many bits arrived, in a shift. None is offered without being counted.
 pub fn offer(
+    shift: Shift,
+    capture: &[u8],
+    arrived: usize,
+    number: u32,
+    down: &[u8],
+    up: &[u8],
+    book: &mut [u32],
+) -> Outcome
+    ensures { λ r. ⌜ Leaves r (now (book .exit)) (offer-counted shift (call (now (capture .entry)) arrived number (now (down .entry)) (now (up .entry))) (now (book .entry))) ⌝ }
+{
+    let answer = bind(capture, arrived, number, down, up, book);
+    Outcome {
+        answer: answer,
+        shift: counted(shift, answer),
+    }
+}
+
+// Binds the name in the capture to the number, where nothing stands against it.
+fn bind(
     capture: &[u8],
     arrived: usize,
     number: u32,
@@ -105,7 +130,7 @@ pub fn begin() -> Shift
 }
 
 // Counts one call by its answer. Behind 2^64 - 1 a number begins anew.
-pub fn counted(shift: Shift, answer: Offered) -> Shift
+fn counted(shift: Shift, answer: Offered) -> Shift
     ensures { λ r. ⌜ r ≡ Shifts·counted shift answer ⌝ }
 {
     let mut s = shift;

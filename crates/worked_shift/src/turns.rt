@@ -3,7 +3,6 @@ use listing::put_decimal;
 use listing::put_text;
 use station::Offered;
 use station::Shift;
-use station::counted;
 use station::offer;
 
 // The shift with the call counted. Each table has one element, without an argument.
@@ -17,9 +16,10 @@ pub fn turn(
     capture: &[u8],
 ) -> Shift {
     let table = [0u8; 1];
-    let answer = offer(capture, arrived, number, &table, &table, book);
+    let outcome = offer(shift, capture, arrived, number, &table, &table, book);
+    let answer = outcome.answer;
     print(station, number, arrived, name, answer);
-    counted(shift, answer)
+    outcome.shift
 }
 
 fn print(station: u64, number: u32, arrived: usize, name: &[u8], answer: Offered) {
