@@ -6,15 +6,15 @@ use mathlib.Core.Option.{none, some}
 use Prim.Native.Nat.{ℕ, _+_, _*_, _-_, _≤_, _<_}
 use native.Mathlib.Nat.{le-refl}
 use native.Mathlib.Omega.{arith}
-use lib.Dec.{eqb}
+use lib.Dec.{leb, eqb}
 use lib.ListN.{length, take, drop, getD, set, replicate, length-drop, length-replicate}
 use lib.Seq.{take-all}
-use borrow.Author.Tests.{lt-ltb, le-ltb, eq-eqb, ne-eqb}
+use borrow.Author.Tests.{le-leb, lt-leb, lt-ltb, le-ltb, eq-eqb, ne-eqb}
 use Rattle.book_entries.specs.Book.{picture, laid, entries, listed}
 use Rattle.book_entries.proofs.Listed.{zeros-none}
 use Rattle.book_changes.proofs.LaidLaws.{drop-zeros}
 use Rattle.counted_books.specs.declared.Free.the-variants.{Places, Refused}
-use Rattle.counted_books.specs.Counted.{high, low, left, shown, held, recounted, emptied, free}
+use Rattle.counted_books.specs.Counted.{high, low, left, room, shown, held, recounted, emptied, free}
 
 -- what is lent of a slice from its third word on
 abbrev pub lent : List ℕ → List ℕ
@@ -36,11 +36,18 @@ short-free [] p = refl
 short-free (h ∷ []) p = refl
 short-free (h ∷ l ∷ w) p = absurd (omega arith)
 
-pub kept-free : (w : List ℕ) {k : ℕ} → 2 ≤ length w → k ≡ getD w 0 0 * 4294967296 + getD w 1 0 → Places k ≡ free w
+-- the number k in front, and the room for as many names
+kept : (w : List ℕ) {k : ℕ} → 2 ≤ length w → k ≡ getD w 0 0 * 4294967296 + getD w 1 0 → free w ≡ cond (leb k (room w)) (Places k) (Refused 18)
 unfolding free
-kept-free [] p e = absurd (omega arith)
-kept-free (h ∷ []) p e = absurd (omega arith)
-kept-free (h ∷ l ∷ w) p e = rw e
+kept [] p e = absurd (omega arith)
+kept (h ∷ []) p e = absurd (omega arith)
+kept (h ∷ l ∷ w) p e = rw e
+
+pub kept-free : (w : List ℕ) {k : ℕ} → 2 ≤ length w → k ≡ getD w 0 0 * 4294967296 + getD w 1 0 → k ≤ room w → Places k ≡ free w
+kept-free w {k} p e h = rw (kept w p e, le-leb k (room w) h)
+
+pub wrong-free : (w : List ℕ) {k : ℕ} → 2 ≤ length w → k ≡ getD w 0 0 * 4294967296 + getD w 1 0 → room w < k → Refused 18 ≡ free w
+wrong-free w {k} p e h = rw (kept w p e, lt-leb k (room w) h)
 
 front : (w : List ℕ) {k : ℕ} → 2 ≤ length w → k ≡ left (drop 2 w) → held w ≡ cond (eqb (getD w 0 0) (high k) && eqb (getD w 1 0) (low k)) (listed (drop 2 w)) none
 unfolding held

@@ -3,11 +3,11 @@ use mathlib.Core.Path.{_≡_, refl, ap, _∙_}
 use mathlib.Core.Bool.{Bool, true, false, cond, _&&_}
 use mathlib.Core.List.{List, [], _∷_}
 use mathlib.Core.Option.{Option, none, some}
-use Prim.Native.Nat.{ℕ, suc, _/_, _-_, _≤_}
+use Prim.Native.Nat.{ℕ, suc, _+_, _*_, _/_, _-_, _≤_}
 use native.Mathlib.Omega.{arith}
 use lib.Dec.{eqb}
 use lib.ListN.{length, drop}
-use borrow.Author.Tests.{eqb-true, eq-eqb}
+use borrow.Author.Tests.{le-leb, eqb-true, eq-eqb}
 use Rattle.book_entries.specs.declared.Entry.{Entry}
 use Rattle.book_entries.specs.Book.{orderly, laid, entries, listed}
 use Rattle.book_entries.proofs.Places.{places}
@@ -50,7 +50,7 @@ holding (h ∷ l ∷ w) {E} e =
       places = j .1;
       fits = record { orderly = i .orderly; few = omega (arith, places w, ap length (i .is)) };
       is = rw (n, ← hi, ← lo) (ap (λ (v : List ℕ). h ∷ l ∷ v) (laid-is (j .1)));
-      free = ap Places (omega (arith, hi, lo));
+      free = rw (le-leb (h * 4294967296 + l) (room (h ∷ l ∷ w)) (omega (arith, hi, lo))) (ap Places (omega (arith, hi, lo)));
     }
 
 -- n words that hold E

@@ -3,7 +3,7 @@ use mathlib.Core.Bool.{cond, _&&_}
 use mathlib.Core.List.{List, [], _∷_}
 use mathlib.Core.Option.{Option, none}
 use Prim.Native.Nat.{ℕ, _+_, _*_, _/_, _%_, _-_}
-use lib.Dec.{ltb, eqb}
+use lib.Dec.{leb, ltb, eqb}
 use lib.ListN.{length, drop, replicate}
 use Rattle.book_entries.specs.declared.Entry.{Entry}
 use Rattle.book_entries.specs.Book.{laid, entries, listed}
@@ -44,8 +44,8 @@ unfoldable pub emptied : ℕ → List ℕ
 unfolding shown
 emptied n = cond (ltb n 2) (replicate n 0) (shown n [])
 
--- "how many names the book still takes": the number that is kept, without a look at the places
+-- "how many names the book still takes": the number that is kept, without a look at the places; "18 .. also for a wrong number": here for one above what there is room for
 unfoldable pub free : List ℕ → Free
 free [] = Refused 18
 free (h ∷ []) = Refused 18
-free (h ∷ l ∷ w) = Places (h * 4294967296 + l)
+free (h ∷ l ∷ w) = cond (leb (h * 4294967296 + l) (room (h ∷ l ∷ w))) (Places (h * 4294967296 + l)) (Refused 18)

@@ -16,16 +16,18 @@ pub enum Free {
     Refused { number: u64 },
 }
 
-// The number that is kept. The places are not looked at.
+// The number that is kept. The places are not looked at, so that a wrong number is told where the slice has room for so many names.
 pub fn free_places(book: &[u32]) -> Free
     ensures { λ r. ⌜ r ≡ free (now (book .entry)) ⌝ }
 {
     if book.len() < 2 {
         return Free::Refused { number: 18 };
     }
-    Free::Places {
-        count: joined(book[0], book[1]),
+    let count = joined(book[0], book[1]);
+    if count <= ((book.len() - 2) / 4) as u64 {
+        return Free::Places { count: count };
     }
+    Free::Refused { number: 18 }
 }
 
 // "One call empties any slice."
