@@ -14,7 +14,9 @@ use Rattle.book_entries.specs.declared.Entry.{Entry}
 use Rattle.book_entries.specs.Entries.{text, size, plain, good}
 use Rattle.atn.specs.Entries.{readFrame, frame-fits, table-fits}
 use Rattle.atn.specs.Messages.{groundPdus}
+use Rattle.forward_names.specs.declared.Named.{Named}
 use Rattle.forward_names.specs.Names.{nameless, nameOf, forward-name}
+use Rattle.forward_names.specs.Forwarded.{identifierOf}
 use Rattle.forward_names.proofs.Identifiers.{named}
 use Rattle.named_entries.specs.Made.{entryOf}
 
@@ -73,7 +75,7 @@ module _ (s down up : List ℕ) (h : forward-name s down up .number ≡ 0) where
       go false q z = absurd (omega arith)
 
   pub small : forward-name s down up .size ≤ 8
-  small = let i = named s down up h in omega (arith, i .sized, i .size)
+  small = let i = named s down up h in omega (arith, i .forwards .inRange .0 .1 .0 .1, ap (λ (n : Named). n .size) (i .is))
 
   pub named-good : (k : ℕ) → good (entryOf (forward-name s down up) k (length s)) ≡ true
   unfolding good
@@ -81,11 +83,14 @@ module _ (s down up : List ℕ) (h : forward-name s down up .number ≡ 0) where
       let i = named s down up h in
       let n = forward-name s down up in
       let e = entryOf n k (length s) in
-      let cs = i .chars in
-      let first = plain-octets cs (i .sevens) in
-      let others = plain-octets (drop 4 cs) (all-drop 4 cs (i .sevens)) in
-      let a : n .text / 4294967296 ≡ octets 4 cs = omega (arith, i .text, halves cs, others .1) in
-      let b : n .text % 4294967296 ≡ octets 4 (drop 4 cs) = omega (arith, i .text, halves cs, others .1) in
+      let cs : List ℕ = identifierOf down up (i .message) in
+      let sized = i .forwards .inRange .0 .1 .0 in
+      let characters : n .text ≡ octets 8 cs = ap (λ (m : Named). m .text) (i .is) in
+      let number : n .size ≡ length cs = ap (λ (m : Named). m .size) (i .is) in
+      let first = plain-octets cs (sized .2) in
+      let others = plain-octets (drop 4 cs) (all-drop 4 cs (sized .2)) in
+      let a : n .text / 4294967296 ≡ octets 4 cs = omega (arith, characters, halves cs, others .1) in
+      let b : n .text % 4294967296 ≡ octets 4 (drop 4 cs) = omega (arith, characters, halves cs, others .1) in
       let t : text e ≡ octets 8 cs = rw (a, b) (sym (halves cs)) in
-      let z : size e ≡ length cs = omega (arith, i .size, short) in
-      rw (z, t, le-leb 2 (length cs) (i .sized .0), le-leb (length cs) 8 (i .sized .1), a, b, first .0, others .0, eq-eqb (octets 8 cs % 256 ^ (8 - length cs)) 0 (mod-eq-zero-of-dvd (256 ^ (8 - length cs)) (zeros 8 cs (i .sized .1))))
+      let z : size e ≡ length cs = omega (arith, number, short) in
+      rw (z, t, le-leb 2 (length cs) (sized .0), le-leb (length cs) 8 (sized .1), a, b, first .0, others .0, eq-eqb (octets 8 cs % 256 ^ (8 - length cs)) 0 (mod-eq-zero-of-dvd (256 ^ (8 - length cs)) (zeros 8 cs (sized .1))))
