@@ -51,9 +51,10 @@ pub fn offer(
     ensures { λ r. ⌜ Leaves r (now (book .exit)) (offer-counted shift (call (now (capture .entry)) arrived number (now (down .entry)) (now (up .entry))) (now (book .entry))) ⌝ }
 {
     let answer = bind(capture, arrived, number, down, up, book);
+    let after = counted(shift, answer);
     Outcome {
         answer: answer,
-        shift: counted(shift, answer),
+        shift: after,
     }
 }
 
