@@ -1,1 +1,2 @@
 pub mod WriterLaws
+pub mod One

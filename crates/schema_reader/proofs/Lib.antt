@@ -1,1 +1,2 @@
 pub mod ReaderLaws
+pub mod One
