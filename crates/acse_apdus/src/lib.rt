@@ -9,6 +9,7 @@ use acse_bodies::unread;
 use acse_reasons::notes::Note;
 use cursor::place::Cursor;
 use cursor::place::bits;
+use per::units::Octets;
 
 // Accepted: whether cut, the reach and the marks; the record of the message, by its value, second number and place, and two at most behind it.
 pub struct Message {
@@ -55,7 +56,7 @@ pub fn read_apdu(s: &[u8]) -> Apdu
 {
     let start = Cursor {
         at: 0,
-        end: s.len() * 8,
+        end: Octets(s.len()).bits().0,
         why: 0,
         marks: 0,
     };

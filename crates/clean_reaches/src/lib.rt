@@ -15,6 +15,7 @@ use cm_pdus::pdu;
 use cpdlc_frames::try_frame;
 use cursor::place::Cursor;
 use message_runs::Kind;
+use per::units::Octets;
 use runs::At;
 
 // The bits of the clean message, or that there is none.
@@ -52,7 +53,7 @@ fn cm_reach(ground: bool, frame: &[u8]) -> Reach
 {
     let start = Cursor {
         at: 0,
-        end: frame.len() * 8,
+        end: Octets(frame.len()).bits().0,
         why: 0,
         marks: 0,
     };

@@ -10,6 +10,7 @@ use answers::accepted;
 use answers::refused;
 use cm_pdus::pdu;
 use cursor::place::Cursor;
+use per::units::Octets;
 use records::space::words_for;
 use runs::At;
 use spare_words::CM_SPARE;
@@ -55,7 +56,7 @@ fn answer_by(spare: &mut [u64], frame: &[u8], words: &mut [u64], ground: bool) -
 {
     let start = Cursor {
         at: 0,
-        end: frame.len() * 8,
+        end: Octets(frame.len()).bits().0,
         why: 0,
         marks: 0,
     };

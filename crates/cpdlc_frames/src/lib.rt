@@ -10,6 +10,7 @@ ghost use Rattle.verdicts.specs.Verdicts.{verdictOf, Tried, Tells, Kept, Follow
 use answers::Answer;
 use cursor::place::Cursor;
 use pdus::choices::read_pdu;
+use per::units::Octets;
 use records::space::words_for;
 use spare_words::copy;
 use verdicts::Verdict;
@@ -21,7 +22,7 @@ fn start(frame: &[u8]) -> Cursor
 {
     Cursor {
         at: 0,
-        end: frame.len() * 8,
+        end: Octets(frame.len()).bits().0,
         why: 0,
         marks: 0,
     }

@@ -147,10 +147,11 @@ module _ (down up : List ℕ) {s : List ℕ} {c : Cursor} {h : HeaderAt} {g : Go
       let tells = tells-lost (data-of (g .v) down up) {n = n} {w = w} (data-of-placeless (g .v) down up) lacks in
       record { recs = []; ran = λ i. forward-soft down up s (soft-forgiven (bodyAt down up s) (body-read down up x pulls (tells .reads) .led i) goes (lacks .stops) f); told = told-within b (omega arith) told-none }
 
-  pub forward-read : {from to a k : ℕ} {window d e : Cursor} {w₁ w₂ w₃ w₄ : List ℕ} {r : At} → length s ≤ 65536 → Has s (g .c) from to window d → Told 71 w w₁ n a (headerRecs s (h .header) 0) → Told 1 w₁ w₂ a k (rec 21 0 (g .v) 0 (h .c .at) ∷ [])
-      → Runs 236050 (laxData (carriedTable (g .v) down up) (bytes s from to)) (bytes s from to) window k w₂ w₃ r → w₄ ≡ raisedPlaces (8 * from) (r .n - k) (space k) w₃ → e ≡ closed d (r .c) → Runs 236122 (forwardAt down up s) s c n w w₄ (record { n = r .n; c = e })
+  pub forward-read : {from to by a k : ℕ} {window d e : Cursor} {w₁ w₂ w₃ w₄ : List ℕ} {r : At} → length s ≤ 65536 → Has s (g .c) from to window d → Told 71 w w₁ n a (headerRecs s (h .header) 0) → Told 1 w₁ w₂ a k (rec 21 0 (g .v) 0 (h .c .at) ∷ [])
+      → Runs 236050 (laxData (carriedTable (g .v) down up) (bytes s from to)) (bytes s from to) window k w₂ w₃ r → by ≡ from * 8 → w₄ ≡ raisedPlaces by (r .n - k) (space k) w₃ → e ≡ closed d (r .c) → Runs 236122 (forwardAt down up s) s c n w w₄ (record { n = r .n; c = e })
   unfolding closed laxData
-  forward-read {from} {to} {d = d} {r = r} short has t₁ t₂ y v q =
+  forward-read {from} {to} {by} {d = d} {r = r} short has t₁ t₂ y m v q =
+      let eight : by ≡ 8 * from = omega (arith, m) in
       let tells = tells-read (data-of (g .v) down up) (data-of-placeless (g .v) down up) short has (given-up (carriedTable (g .v) down up) y) in
       record {
         recs = headerRecs s (h .header) 0 ++ (rec 21 0 (g .v) 0 (h .c .at) ∷ tells .recs);
@@ -158,5 +159,5 @@ module _ (down up : List ℕ) {s : List ℕ} {c : Cursor} {h : HeaderAt} {g : Go
             let ends = lax-ends (dataAt (carriedTable (g .v) down up) (bytes s from to)) 7 false (window-goes has) (y .ran (window-inside has)) in
             let neither = closed-neither (r .c .why) (ends .0) (ends .1) in
             rw q (forward-soft down up s (soft-went 7 (bodyAt down up s) (body-read down up x pulls (tells .reads) .led i) goes (neither .0) (neither .1)));
-        told = rw v (told-then t₁ (told-then t₂ (tells .told)));
+        told = rw (v, eight) (told-then t₁ (told-then t₂ (tells .told)));
       }

@@ -11,6 +11,7 @@ use forward_headers::tell_header;
 use inner_messages::try_data;
 use inner_strings::Inner;
 use inner_strings::find_string;
+use per::units::Octets;
 use records::emit;
 use records::places::move_places;
 use runs::At;
@@ -82,8 +83,8 @@ pub fn read_forward(s: &[u8], words: &mut [u64], n: usize, c: Cursor, down: &[u8
             let x = read_carried(&s[from..to], words, b, window, g.v, down, up);
             let m = x.n;
             // they were told with places in the string's bytes
-            let by = 8 * from;
-            move_places(words, b, m, by);
+            let by = Octets(from).bits();
+            move_places(words, b, m, by.0);
             let e = close_window(d, x.c);
             At { n: m, c: e }
         }

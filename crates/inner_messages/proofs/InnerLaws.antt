@@ -24,7 +24,7 @@ module _ (table : List ℕ) {b : ℕ} {s : List ℕ} {c d : Cursor} {n : ℕ} {w
   unfolding innerAt
   string-lost x = runs-within b (innerAt table s) (omega arith) (runs-tells (innerAt table s) goes (tells-lost (atcMessage table) (message-placeless table) x))
 
-  pub string-read : {from to : ℕ} {window e : Cursor} {w₁ w₂ : List ℕ} {r : At} → length s ≤ 65536 → Has s c from to window d → Runs b (messageAt table (bytes s from to)) (bytes s from to) window n w w₁ r → w₂ ≡ raisedPlaces (8 * from) (r .n - n) (space n) w₁ → e ≡ closed d (r .c)
+  pub string-read : {from to by : ℕ} {window e : Cursor} {w₁ w₂ : List ℕ} {r : At} → length s ≤ 65536 → Has s c from to window d → Runs b (messageAt table (bytes s from to)) (bytes s from to) window n w w₁ r → by ≡ from * 8 → w₂ ≡ raisedPlaces by (r .n - n) (space n) w₁ → e ≡ closed d (r .c)
       → Runs b (innerAt table s) s c n w w₂ (record { n = r .n; c = e })
   unfolding innerAt messageAt
-  string-read few h x y q = rw (q, y) (runs-tells (innerAt table s) goes (tells-read (atcMessage table) (message-placeless table) few h x))
+  string-read {from} {by = by} few h x m y q = let k : by ≡ 8 * from = omega (arith, m) in rw (q, y, k) (runs-tells (innerAt table s) goes (tells-read (atcMessage table) (message-placeless table) few h x))

@@ -8,6 +8,7 @@ use inner_strings::Inner;
 use inner_strings::find_string;
 use message::data::read_data;
 use message::data::read_message;
+use per::units::Octets;
 use records::places::move_places;
 use runs::At;
 use runs::windows::close_window;
@@ -52,8 +53,8 @@ pub fn read_inner(s: &[u8], words: &mut [u64], n: usize, c: Cursor, table: &[u8]
             let x = read_message(&s[from..to], words, n, window, table);
             let m = x.n;
             // they were told with places in the string's bytes
-            let by = 8 * from;
-            move_places(words, n, m, by);
+            let by = Octets(from).bits();
+            move_places(words, n, m, by.0);
             let e = close_window(d, x.c);
             At { n: m, c: e }
         }

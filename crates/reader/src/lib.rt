@@ -8,6 +8,7 @@ use cursor::place::Got;
 use cursor::place::bits;
 use cursor::place::stop;
 use per::room::holds;
+use per::units::Octets;
 
 pub struct Reader<'a> {
     pub frame: &'a [u8],
@@ -21,7 +22,7 @@ pub fn start(s: &[u8], at: usize) -> Cursor
     if s.len() <= 65536 {
         return Cursor {
             at: at,
-            end: s.len() * 8,
+            end: Octets(s.len()).bits().0,
             why: 0,
             marks: 0,
         };

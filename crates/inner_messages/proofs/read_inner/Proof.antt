@@ -24,17 +24,17 @@ part-read-message-end c = found (c .before .from .given .1) (c .before .before .
 returns-2 : tie.Need-returns-2
 returns-2 c = string-lost _ (c .before .before .before .before .if1 .left) (lost (c .before .d .given .1) (c .before .before .before .find-string .ensures))
 
-mul-by : tie.Need-mul-by
-mul-by c =
+bits-requires : tie.Need-bits-requires
+bits-requires c κs =
     let h = found (c .before .before .before .before .before .before .from .given .1) (c .before .before .before .before .before .before .before .before .find-string .ensures) in
     omega (arith, h .ordered, h .held, c .before .before .before .before .before .before .before .before .before .before .before .before .before .before .pre .0)
 
 move-places-requires : tie.Need-move-places-requires
-move-places-requires c κs = omega (arith, c .before .before .before .read-message .ensures .told .few, c .before .before .before .before .before .before .before .before .before .before .before .before .before .before .before .pre .1)
+move-places-requires c κs = omega (arith, c .before .before .before .before .read-message .ensures .told .few, c .before .before .before .before .before .before .before .before .before .before .before .before .before .before .before .before .pre .1)
 
 returns-3 : tie.Need-returns-3
 returns-3 c =
-    string-read _ (c .before .before .before .before .before .before .before .before .before .before .before .before .before .before .if1 .left) (c .before .before .before .before .before .before .before .before .before .before .before .before .before .before .before .before .before .before .before .pre .0) (found (c .before .before .before .before .before .before .before .before .before .before .before .from .given .1) (c .before .before .before .before .before .before .before .before .before .before .before .before .before .find-string .ensures)) (c .before .before .before .before .before .before .before .read-message .ensures) (c .before .before .before .move-places .ensures) (c .close-window .ensures)
+    string-read _ (c .before .before .before .before .before .before .before .before .before .before .before .before .before .before .before .if1 .left) (c .before .before .before .before .before .before .before .before .before .before .before .before .before .before .before .before .before .before .before .before .pre .0) (found (c .before .before .before .before .before .before .before .before .before .before .before .before .from .given .1) (c .before .before .before .before .before .before .before .before .before .before .before .before .before .before .find-string .ensures)) (c .before .before .before .before .before .before .before .before .read-message .ensures) (c .before .before .before .before .before .bits .ensures) (c .before .before .before .move-places .ensures) (c .close-window .ensures)
 
 same-length : tie.Need-same-length
 same-length c = told-length (returns-3 c .told)
@@ -42,4 +42,4 @@ same-length c = told-length (returns-3 c .told)
 pub read-inner-spec : {M : Type 1} → statement M
 read-inner-spec =
     tie.close
-    (tie.spec returns (λ c κs. search needs) (λ c. search needs) (λ c. search needs) sub-read-message part-read-message-start part-read-message-end (λ c κs. search needs) mul-by move-places-requires (λ c κs. search needs) returns-2 same-length returns-3)
+    (tie.spec returns (λ c κs. search needs) (λ c. search needs) (λ c. search needs) sub-read-message part-read-message-start part-read-message-end (λ c κs. search needs) bits-requires move-places-requires (λ c κs. search needs) returns-2 same-length returns-3)
