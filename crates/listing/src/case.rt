@@ -17,8 +17,8 @@ pub fn print_case(name: &[u8], frame: &[u8], words: &[u64; 160], answer: Answer)
     write(&mut line, n);
 }
 
-// The empty frame is `-`.
-fn put_octets(line: &mut [u8; 1024], n: usize, frame: &[u8]) -> usize {
+// Octets in hexadecimal; none is `-`.
+pub fn put_octets(line: &mut [u8; 1024], n: usize, frame: &[u8]) -> usize {
     if frame.len() == 0 {
         return put(line, n, b'-');
     }

@@ -6,6 +6,7 @@ mod runs; // runs.rt: whether two lines are the same
 pub use answer::put_answer;
 pub use answer::put_records;
 pub use case::print_case;
+pub use case::put_octets;
 pub use runs::same;
 
 // The most bytes of a line.

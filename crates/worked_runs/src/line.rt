@@ -1,7 +1,7 @@
 // A case's line.
 use listing::put;
 use listing::put_decimal;
-use listing::put_hex;
+use listing::put_octets;
 use listing::put_text;
 use message_runs::Starts;
 
@@ -15,24 +15,6 @@ pub fn print(kind: &[u8], run: &[u8], answer: Starts, starts: &[u64]) {
     n = put(&mut line, n, b';');
     n = put_numbers(&mut line, n, starts);
     listing::write(&mut line, n);
-}
-
-// The empty run is `-`.
-fn put_octets(line: &mut [u8; 1024], n: usize, run: &[u8]) -> usize {
-    if run.len() == 0 {
-        return put(line, n, b'-');
-    }
-    let mut m = n;
-    let mut i = 0;
-    while i < run.len() {
-        m = put_hex(line, m, wide(run[i]), 2);
-        i += 1;
-    }
-    m
-}
-
-fn wide(x: u8) -> u64 {
-    x as u64
 }
 
 fn put_answer(line: &mut [u8; 1024], n: usize, answer: Starts) -> usize {
