@@ -45,6 +45,10 @@ tells a any = true
 tells a (less k d) = agree a (less k d)
 
 module _ (ρ : ℕ → ℕ) where
+  pub means-cond : (t : Bool) (a b : Val) (u v : ℕ) → Means ρ a u → Means ρ b v → Means ρ (cond t a b) (cond t u v)
+  means-cond true a b u v i j = i
+  means-cond false a b u v i j = j
+
   pub agree-equal : (a b : Val) (m n : ℕ) → agree a b ≡ true → Means ρ a m → Means ρ b n → m ≡ n
   unfolding agree
   agree-equal any b m n h x y = let z : _≡_ {A = ℕ} 0 1 = cc in absurd (omega arith)

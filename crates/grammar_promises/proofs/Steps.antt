@@ -15,7 +15,7 @@ use Rattle.record_grammar.specs.declared.Walk.{Walk}
 use Rattle.record_grammar.specs.Kinds.{text, index, clearance, place}
 use Rattle.record_grammar.specs.Rows.{rowWord, rowAt, fits, resolved, asked, found, leftBehind, orKept, rowBehind, elementBehind, clearanceBehind, placeBehind, onward, stepped}
 use Rattle.record_grammar.specs.Table.{table}
-use Rattle.grammar_promises.proofs.States.{Val, any, nil, Means, State, lost, stands, Covers}
+use Rattle.grammar_promises.proofs.States.{Val, any, nil, Means, means-cond, State, lost, stands, Covers}
 use Rattle.grammar_promises.proofs.Verdicts.{Sort, value, placed, stretch, letters, Of, Scope, Known, Verdict, yes, no, unsure, Judges, keptVal, verdict, kept-means, judges-row}
 
 ---------------------------------------------------------------- the row
@@ -165,19 +165,15 @@ module _ (ρ : ℕ → ℕ) (Γ : Scope) (x : Ctx) (k : Known ρ Γ x) (y : Reco
   told-means (stretch a n) g = tt
   told-means (letters a n) g = tt
 
-  means-cond : (t : Bool) (a b : Val) (u v : ℕ) → Means ρ a u → Means ρ b v → Means ρ (cond t a b) (cond t u v)
-  means-cond true a b u v i j = i
-  means-cond false a b u v i j = j
-
   behind-covers : (s : Walk) (a b l : ℕ) (e c p : Val) → Covers ρ (stands a b l e c p) s → (j : ℕ) → eqb (row j .kind) text ≡ false → Covers ρ (behind Γ z b l e c p (row j)) (onward j (row j) s y)
   unfolding behind onward leftBehind rowBehind elementBehind clearanceBehind placeBehind
   behind-covers s a b l e c p g j q = (
     rw q refl,
     rw (g .1) refl,
     rw (g .2) refl,
-    means-cond (eqb (row j .kind) index) _ _ _ _ (rw f (k .1)) (kept-means ρ Γ x k (row j) y (row j .kind) e _ (g .3)),
-    means-cond (eqb (row j .kind) clearance) _ _ _ _ (told-means z h) (g .4),
-    means-cond (eqb (row j .kind) place) _ _ _ _ (told-means z h) (means-cond (eqb (row j .kind) clearance) nil _ 0 _ (omega (arith, k .0)) (g .5)),
+    means-cond ρ (eqb (row j .kind) index) _ _ _ _ (rw f (k .1)) (kept-means ρ Γ x k (row j) y (row j .kind) e _ (g .3)),
+    means-cond ρ (eqb (row j .kind) clearance) _ _ _ _ (told-means z h) (g .4),
+    means-cond ρ (eqb (row j .kind) place) _ _ _ _ (told-means z h) (means-cond ρ (eqb (row j .kind) clearance) nil _ 0 _ (omega (arith, k .0)) (g .5)),
     rw q refl,
   )
 

@@ -13,7 +13,7 @@ use Rattle.record_grammar.specs.declared.Walk.{Walk}
 use Rattle.record_grammar.specs.Octets.{within, charactersFit}
 use Rattle.record_grammar.specs.Kinds.{number, reason, release, text, span, index, clearance, place, channel, digits, spaced, note}
 use Rattle.record_grammar.specs.Rows.{numbered, unheard, lengthFits, lettered, spanned, counted, noted, holds, elementKept, elementFits, fits}
-use Rattle.grammar_promises.proofs.States.{Val, nil, now, prior, Means, agree, agree-equal, agree-means}
+use Rattle.grammar_promises.proofs.States.{Val, nil, now, prior, Means, means-cond, agree, agree-equal, agree-means}
 
 ---------------------------------------------------------------- what is known of a record
 
@@ -241,14 +241,10 @@ module _ (ρ : ℕ → ℕ) (Γ : Scope) (x : Ctx) (k : Known ρ Γ x) (r : Row)
 
   pub kept-means : (i : ℕ) (e : Val) (n : ℕ) → Means ρ e n → Means ρ (keptVal i e) (elementKept i n)
   unfolding keptVal elementKept
-  kept-means i e n m = means-cond (eqb i span) _ _ _ _ zeroed (means-cond (eqb i clearance) _ _ _ _ zeroed (means-cond (eqb i note) _ _ _ _ zeroed m))
+  kept-means i e n m = means-cond ρ (eqb i span) _ _ _ _ zeroed (means-cond ρ (eqb i clearance) _ _ _ _ zeroed (means-cond ρ (eqb i note) _ _ _ _ zeroed m))
     where
       zeroed : 0 + 0 ≡ ρ 0
       zeroed = omega (arith, k .0)
-
-      means-cond : (t : Bool) (a b : Val) (u v : ℕ) → Means ρ a u → Means ρ b v → Means ρ (cond t a b) (cond t u v)
-      means-cond true a b u v f g = f
-      means-cond false a b u v f g = g
 
   module _ (s : Walk) (e c p : Val) (me : Means ρ e (s .element)) (mc : Means ρ c (s .clearance)) (mp : Means ρ p (s .place)) (l : s .left ≡ 0) where
     judges-kinds : (z : Sort) → Of z x y → Judges (kinds c p Γ r z) (holds r s y)
