@@ -8,4 +8,5 @@ pub mod Elements
 pub mod Computed
 pub mod Tables
 pub mod Accepted
+pub mod Rises
 pub mod Shown

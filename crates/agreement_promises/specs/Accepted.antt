@@ -8,6 +8,7 @@ use Rattle.atn.specs.Reading.{Rec}
 use Rattle.atn.specs.Entries.{Reply, accept, Outcome}
 use Rattle.record_views.specs.View.{recordsFrom}
 use Rattle.element_kinds.specs.Agreed.{agreed}
+use Rattle.screen.specs.Placed.{placed}
 use Rattle.grammar_promises.specs.Accepted.{Wrote}
 use Rattle.agreement_promises.specs.Kept.{tableKind, keeps}
 
@@ -25,3 +26,7 @@ ByOne down up R = (keeps (tableKind down) R ≡ true) ⊎ (keeps (tableKind up) 
 -- of the words that an accepted answer wrote
 abbrev pub Agreed : Outcome → Type 0
 Agreed o = Wrote (λ w. agreed (recordsFrom 0 w) ≡ true) (o .0) (o .1)
+
+-- the fields never begin earlier, and all begin within the longest frame
+abbrev pub Placed : Outcome → Type 0
+Placed o = Wrote (λ w. placed 0 (recordsFrom 0 w) ≡ true) (o .0) (o .1)

@@ -13,6 +13,7 @@ use Rattle.element_kinds.specs.Agreed.{agreed}
 use Rattle.screen_bytes.specs.Put.{Put, puts}
 use Rattle.screen_bytes.proofs.Putting.{puts-nowhere, puts-fits}
 use Rattle.screen_text.specs.Text.{phrased}
+use Rattle.screen.specs.Placed.{placed}
 use Rattle.screen.specs.declared.Screen.the-variants.{Shown, Refused}
 use Rattle.screen.specs.Screen.{small, given, text, Outcome, settled, screen-lines}
 
@@ -57,7 +58,7 @@ right false b e = cc
 pub lengths : (w down up : List ℕ) → given w down up ≡ true → (length w < 2 ^ 40) × (length down < 2 ^ 44) × (length up < 2 ^ 44)
 unfolding given small
 lengths w down up h =
-    let s = left (small w down up) (formed w && (agreed (recordsFrom 0 w) && phrased down up 0 (recordsFrom 0 w))) h in
+    let s = left (small w down up) (formed w && (placed 0 (recordsFrom 0 w) && (agreed (recordsFrom 0 w) && phrased down up 0 (recordsFrom 0 w)))) h in
     let a = ltb (length w) (2 ^ 40) in
     let b = ltb (length down) (2 ^ 44) in
     let c = ltb (length up) (2 ^ 44) in

@@ -8,6 +8,7 @@ use Rattle.record_views.specs.View.{recordsFrom}
 use Rattle.record_grammar.specs.Heard.{formed}
 use Rattle.element_kinds.specs.Agreed.{agreed}
 use Rattle.screen_text.specs.Text.{phrased, lines}
+use Rattle.screen.specs.Placed.{placed}
 use Rattle.screen.specs.declared.Screen.{Screen}
 use Rattle.screen.specs.declared.Screen.the-variants.{Shown, Refused}
 
@@ -17,7 +18,7 @@ small w down up = ltb (length w) (2 ^ 40) && (ltb (length down) (2 ^ 44) && ltb 
 
 -- records that a reading gives, and a phrase for each element's index
 unfoldable pub given : List ℕ → List ℕ → List ℕ → Bool
-given w down up = small w down up && (formed w && (agreed (recordsFrom 0 w) && phrased down up 0 (recordsFrom 0 w)))
+given w down up = small w down up && (formed w && (placed 0 (recordsFrom 0 w) && (agreed (recordsFrom 0 w) && phrased down up 0 (recordsFrom 0 w))))
 
 -- "a line per element, ended by a line feed"
 unfoldable pub text : List ℕ → List ℕ → List ℕ → List ℕ

@@ -7,6 +7,8 @@ use record_grammar::hearing::are_formed;
 use screen_text::have_phrases;
 use screen_text::put_lines;
 
+mod places; // places.rt: where fields begin
+
 // How many bytes were written; or document 02's refusal, 13 or 14, and for 14 the bytes needed.
 pub enum Screen {
     Shown { bytes: usize },
@@ -35,8 +37,11 @@ fn are_given(words: &[u64], down: &[u8], up: &[u8]) -> bool
 {
     if are_small(words, down, up) {
         if are_formed(words) {
-            if elements_agree(words) {
-                return have_phrases(words, down, up);
+            if places::are_placed(words) {
+                if elements_agree(words) {
+                    return have_phrases(words, down, up);
+                }
+                return false;
             }
             return false;
         }

@@ -1,0 +1,35 @@
+// Where the fields of records begin.
+ghost use mathlib.Core.Path.{_≡_};
+ghost use Prim.Native.Nat.{_<_};
+ghost use Rattle.record_views.specs.View.{count, recordAt, recordsFrom};
+ghost use Rattle.screen.specs.Placed.{place, placed};
+use record_views::records_in;
+use records::space::words_for;
+
+const LONGEST: u64 = 524288;
+
+// The place of record i, its fifth word.
+fn place_at(words: &[u64], i: usize) -> u64
+    requires { ⌜ i < count (now words) ⌝ }
+    ensures { λ r. ⌜ r ≡ place (recordAt (now (words .entry)) i) ⌝ }
+{
+    words[i * words_for(1) + 4]
+}
+
+// Whether the places never fall, and end within the longest frame.
+pub fn are_placed(words: &[u64]) -> bool
+    ensures { λ r. ⌜ r ≡ placed 0 (recordsFrom 0 (now (words .entry))) ⌝ }
+{
+    let n = records_in(words);
+    let mut i = 0;
+    let mut low = 0;
+    while i < n {
+        let next = place_at(words, i);
+        if next < low {
+            return false;
+        }
+        low = next;
+        i += 1;
+    }
+    low <= LONGEST
+}
