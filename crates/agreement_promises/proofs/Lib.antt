@@ -8,5 +8,7 @@ pub mod Elements
 pub mod Computed
 pub mod Tables
 pub mod Accepted
+pub mod Begun
+pub mod Spans
 pub mod Rises
 pub mod Shown

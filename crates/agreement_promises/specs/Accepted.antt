@@ -27,6 +27,6 @@ ByOne down up R = (keeps (tableKind down) R ≡ true) ⊎ (keeps (tableKind up) 
 abbrev pub Agreed : Outcome → Type 0
 Agreed o = Wrote (λ w. agreed (recordsFrom 0 w) ≡ true) (o .0) (o .1)
 
--- the fields never begin earlier, and all begin within the longest frame
+-- where its fields begin
 abbrev pub Placed : Outcome → Type 0
 Placed o = Wrote (λ w. placed 0 (recordsFrom 0 w) ≡ true) (o .0) (o .1)

@@ -1,5 +1,4 @@
 use borrow.Author.Needs.{needs}
-use mathlib.Core.Path.{_≡_}
 use native.Mathlib.Omega.{arith}
 use Rattle.record_views.proofs.ViewLaws.{stands, record-there}
 use Rattle.screen.proofs.places.place_at.Statement.{statement}
