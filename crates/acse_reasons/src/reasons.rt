@@ -17,6 +17,7 @@ use super::notes::note_at;
 use cursor::place::Cursor;
 use cursor::place::bits;
 use cursor::place::mark;
+use field_ranges::table::RELEASE_REASON;
 use field_ranges::table::Range;
 use ranged_numbers::ranged;
 
@@ -53,7 +54,7 @@ fn unlisted(v: u64) -> u64
     1
 }
 
-// A release reason: 5 bits.
+// A release reason: some numbers of a range.
 pub fn release_reason(s: &[u8], c: Cursor, tag: u64) -> NoteAt
     ensures { λ r. ⌜ Keeps (listedReason tag) (now (s .entry)) c (r .c) (noteRecs (r .note)) ⌝ }
 {
@@ -61,7 +62,7 @@ pub fn release_reason(s: &[u8], c: Cursor, tag: u64) -> NoteAt
     if extension.v != 0 {
         return extended(extension.c, tag);
     }
-    let index = bits(s, extension.c, 5);
+    let index = bits(s, extension.c, RELEASE_REASON.width());
     let d = mark(index.c, unlisted(index.v));
     note_at(d, tag, index.v, 0, extension.c.at)
 }

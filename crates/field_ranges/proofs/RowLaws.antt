@@ -41,5 +41,5 @@ places : map numberOf table ≡ countedFrom 0 table
 unfolding numberOf countedFrom
 places = refl
 
-pub in-place : (k : ℕ) → k < 58 → Listed (rowAt k) × (rowAt k .row ≡ k)
+pub in-place : (k : ℕ) → k < 59 → Listed (rowAt k) × (rowAt k .row ≡ k)
 in-place k h = let n : rowAt k .row ≡ k = sym (numbers table k) ∙ ap (λ (ns : List ℕ). getD ns k 0) places ∙ counted 0 k table h ∙ zero-add k in (ap rowAt (sym n), n)

@@ -13,7 +13,7 @@ use Rattle.field_ranges.specs.Rows.{degrees-0, degrees-1, speed-0, speed
 use Rattle.field_ranges.specs.Rows.{frequency-0, frequency-1, frequency-2, code-digit, speed-type, traffic-type, clearance-type, error-information, facility-function, procedure, runway, runway-side}
 use Rattle.field_ranges.specs.Rows.{user-abort-reason, provider-abort-reason, forward-response, cm-abort-reason, cm-forward-response, abort-diagnostic, ae-qualifier, ap-version}
 use Rattle.field_ranges.specs.Rows.{fix-size, navaid-size, airport-size, procedure-size, transition-size, flight-size, route-size, channel-size, selector-size}
-use Rattle.field_ranges.specs.Rows.{elements, clearances, legs, applications}
+use Rattle.field_ranges.specs.Rows.{elements, clearances, legs, applications, release-reason}
 
 abbrev pub row : ℕ → ℕ → ℕ → Range
 row k l h = record { row = k; lo = l; hi = h }
@@ -78,6 +78,7 @@ table =
     row clearances 1 2 ∷
     row legs 1 128 ∷
     row applications 1 256 ∷
+    row release-reason 0 30 ∷
     []
 
 abbrev pub rowAt : ℕ → Range

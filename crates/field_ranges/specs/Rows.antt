@@ -174,3 +174,6 @@ legs = 56
 
 abbrev pub applications : ℕ
 applications = 57
+
+abbrev pub release-reason : ℕ
+release-reason = 58

@@ -376,7 +376,13 @@ pub const APPLICATIONS: Range = Range {
     hi: 256,
 };
 
-const RANGES: [Range; 58] = [
+pub const RELEASE_REASON: Range = Range {
+    row: 58,
+    lo: 0,
+    hi: 30,
+};
+
+const RANGES: [Range; 59] = [
     SIDE,
     YEAR,
     MONTH,
@@ -435,11 +441,12 @@ const RANGES: [Range; 58] = [
     CLEARANCES,
     LEGS,
     APPLICATIONS,
+    RELEASE_REASON,
 ];
 
 // The range of a row, for what is told by its number: degrees, speeds, levels and frequencies. They are named one by one, and a field that is known takes its constant: a table that is indexed by a variable is laid on the stack.
 pub fn range_at(row: usize) -> Range
-    requires { ⌜ row < 58 ⌝ }
+    requires { ⌜ row < 59 ⌝ }
     ensures { λ r. ⌜ Listed r × (r .row ≡ row) ⌝ }
 {
     match row {

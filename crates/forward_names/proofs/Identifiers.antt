@@ -15,7 +15,8 @@ use Rattle.atn.specs.Entries.{Reply, accept, ranOut, badly, unsupplied, readFra
 use Rattle.atn.specs.Messages.{forward, groundPdus}
 use Rattle.atn.specs.Reading.{Rec}
 use Rattle.atn.specs.Told.{tell, tellFields, tellPick}
-use Rattle.atn.proofs.Demands.{Message, clean-message}
+use Rattle.atn.specs.Demands.{Message}
+use Rattle.atn.proofs.Demands.{clean-message}
 use Rattle.forward_names.specs.declared.Named.{Named}
 use Rattle.forward_names.specs.Names.{nameless, nameIn, nameOf, forward-name}
 use Rattle.forward_names.specs.Forwarded.{uplink, identifierOf, Forwards, nameFor, Identifies}
