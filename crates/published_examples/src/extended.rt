@@ -1,18 +1,14 @@
 // A.4: a sequence whose extension is there, with a choice that is extended too.
-ghost use Prim.Native.Nat.{_≤_};
-ghost use lib.ListN.{length};
 use super::read::ended;
+use super::read::first_number;
 use super::read::number;
 use super::read::size;
 use super::read::small_number;
-use super::read::start;
 
 const SEQUENCE: [u8; 8] = [0x9E, 0x00, 0x06, 0x00, 0x04, 0x0A, 0x46, 0x90];
 
-fn record(frame: &[u8])
-    requires { ⌜ length (now frame) ≤ 65536 ⌝ }
-{
-    let extended = number(b"A.4\nextended ", frame, start(frame), 1);
+fn record(frame: &[u8]) {
+    let extended = first_number(b"A.4\nextended ", frame, 1);
     let optional = number(b", i and j ", frame, extended, 2);
     let a = number(b"\na, 250 and ", frame, optional, 2);
     let b = number(b"\nb ", frame, a, 1);

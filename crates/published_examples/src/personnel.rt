@@ -1,10 +1,8 @@
 // A.1: a personnel record without constraints. The members of a SET stand by their tags: name, number, title, date, spouse, children.
-ghost use Prim.Native.Nat.{_≤_};
-ghost use lib.ListN.{length};
 use super::read::ended;
+use super::read::first_number;
 use super::read::number;
 use super::read::size;
-use super::read::start;
 use super::read::string;
 use cursor::place::Cursor;
 
@@ -106,10 +104,8 @@ fn child(frame: &[u8], c: Cursor) -> Cursor {
     string(b" born ", frame, named)
 }
 
-fn record(frame: &[u8])
-    requires { ⌜ length (now frame) ≤ 65536 ⌝ }
-{
-    let there = number(b"A.1\nchildren are there: ", frame, start(frame), 1);
+fn record(frame: &[u8]) {
+    let there = first_number(b"A.1\nchildren are there: ", frame, 1);
     let named = name(b"\nname ", frame, there);
     let octets = size(b"\nnumber, octets ", frame, named);
     let numbered = number(b": ", frame, octets, 8);

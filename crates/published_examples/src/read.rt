@@ -1,34 +1,27 @@
 // What is read, printed.
 ghost use Prim.Native.Nat.{_≤_};
-ghost use lib.ListN.{length};
 use cursor::place::Cursor;
-use cursor::place::bits;
+use cursor::place::Got;
 use length_determinants::length;
 use length_determinants::small;
+use reader::bits_at;
+use reader::next;
 
 // The longest frame that the cursor reads.
 const LIMIT: usize = 65536;
 
-// The window is the whole frame.
-pub fn start(frame: &[u8]) -> Cursor
-    requires { ⌜ length (now frame) ≤ 65536 ⌝ }
+// A number of n bits, the first of the frame.
+pub fn first_number(label: &[u8], frame: &[u8], n: usize) -> Cursor
+    requires { ⌜ n ≤ 64 ⌝ }
 {
-    Cursor {
-        at: 0,
-        end: frame.len() * 8,
-        why: 0,
-        marks: 0,
-    }
+    shown(label, bits_at(frame, 0, n))
 }
 
 // A number of n bits.
 pub fn number(label: &[u8], frame: &[u8], c: Cursor, n: usize) -> Cursor
     requires { ⌜ n ≤ 64 ⌝ }
 {
-    let g = bits(frame, c, n);
-    let d = g.c;
-    told(label, g.v, d.why);
-    d
+    shown(label, next(frame, c, n))
 }
 
 // A normally small number.
@@ -36,7 +29,10 @@ pub fn small_number(label: &[u8], frame: &[u8], c: Cursor) -> Cursor {
     if LIMIT < frame.len() {
         return c;
     }
-    let g = small(frame, c);
+    shown(label, small(frame, c))
+}
+
+fn shown(label: &[u8], g: Got) -> Cursor {
     let d = g.c;
     told(label, g.v, d.why);
     d
@@ -68,7 +64,7 @@ fn characters(frame: &[u8], c: Cursor, n: usize) -> Cursor {
     let mut d = c;
     let mut i = 0;
     while i < n {
-        let g = bits(frame, d, 7);
+        let g = next(frame, d, 7);
         d = g.c;
         if d.why == 0 {
             letter(g.v);

@@ -2,14 +2,14 @@
 ghost use Prim.Native.Nat.{_≤_};
 ghost use lib.ListN.{length};
 use super::line::print;
-use super::line::start;
 use cursor::place::Got;
 use length_determinants::length;
+use reader::start;
 
 fn case(frame: &[u8])
     requires { ⌜ length (now frame) ≤ 65536 ⌝ }
 {
-    let l = length(frame, start(frame));
+    let l = length(frame, start(frame, 0));
     let behind = l.c;
     let g = Got {
         v: l.count as u64,

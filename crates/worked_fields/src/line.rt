@@ -1,22 +1,5 @@
-// A case's line, and where its reading starts.
-ghost use mathlib.Core.Path.{_≡_};
-ghost use Prim.Native.Nat.{_*_, _≤_};
-ghost use lib.ListN.{length};
-use cursor::place::Cursor;
+// A case's line.
 use cursor::place::Got;
-
-// The window is the whole frame.
-pub fn start(frame: &[u8]) -> Cursor
-    requires { ⌜ length (now frame) ≤ 65536 ⌝ }
-    ensures { λ r. ⌜ r ≡ record { at = 0; end = length (now (frame .entry)) * 8; why = 0; marks = 0 } ⌝ }
-{
-    Cursor {
-        at: 0,
-        end: frame.len() * 8,
-        why: 0,
-        marks: 0,
-    }
-}
 
 pub fn print(kind: &[u8], frame: &[u8], g: Got) {
     let c = g.c;

@@ -1,18 +1,16 @@
 // Numbers of a range. The bits behind the number are 0.
-ghost use Prim.Native.Nat.{_≤_};
-ghost use lib.ListN.{length};
 ghost use Rattle.field_ranges.specs.Ranges.{Listed};
 use super::line::print;
-use super::line::start;
 use field_ranges::table::LEVEL_0;
 use field_ranges::table::Range;
 use field_ranges::table::YEAR;
 use ranged_numbers::ranged;
+use reader::start;
 
 fn case(kind: &[u8], frame: &[u8], range: Range)
-    requires { ⌜ (length (now frame) ≤ 65536) × Listed range ⌝ }
+    requires { ⌜ Listed range ⌝ }
 {
-    let g = ranged(frame, start(frame), range);
+    let g = ranged(frame, start(frame, 0), range);
     print(kind, frame, g);
 }
 

@@ -1,16 +1,12 @@
 // Sizes and counts.
-ghost use Prim.Native.Nat.{_≤_};
-ghost use lib.ListN.{length};
 use super::line::print;
-use super::line::start;
 use character_strings::size;
 use field_ranges::table::AIRPORT_SIZE;
 use field_ranges::table::ELEMENTS;
+use reader::start;
 
-fn airport(frame: &[u8])
-    requires { ⌜ length (now frame) ≤ 65536 ⌝ }
-{
-    let g = size(frame, start(frame), AIRPORT_SIZE);
+fn airport(frame: &[u8]) {
+    let g = size(frame, start(frame, 0), AIRPORT_SIZE);
     print(b"airport size", frame, g);
 }
 
@@ -20,10 +16,8 @@ pub fn airports() {
     airport(&[0xFF]); // not looked at
 }
 
-fn element(frame: &[u8])
-    requires { ⌜ length (now frame) ≤ 65536 ⌝ }
-{
-    let g = size(frame, start(frame), ELEMENTS);
+fn element(frame: &[u8]) {
+    let g = size(frame, start(frame, 0), ELEMENTS);
     print(b"element count", frame, g);
 }
 

@@ -2,13 +2,13 @@
 ghost use Prim.Native.Nat.{_≤_};
 ghost use lib.ListN.{length};
 use super::line::print;
-use super::line::start;
 use length_determinants::small;
+use reader::start;
 
 fn case(frame: &[u8])
     requires { ⌜ length (now frame) ≤ 65536 ⌝ }
 {
-    let g = small(frame, start(frame));
+    let g = small(frame, start(frame, 0));
     print(b"small", frame, g);
 }
 

@@ -13,8 +13,8 @@ abbrev μ-loop : tie.MeasureT-loop
 loop-holds : tie.Need-loop-holds Inv-loop μ-loop
 loop-holds c = search needs
 
-bits-requires : tie.Need-bits-requires Inv-loop μ-loop
-bits-requires c κs = search needs
+next-requires : tie.Need-next-requires Inv-loop μ-loop
+next-requires c κs = search needs
 
 letter-requires : tie.Need-letter-requires Inv-loop μ-loop
 letter-requires c κs = search needs
@@ -32,4 +32,4 @@ returns : tie.Need-returns Inv-loop μ-loop
 returns c = search needs
 
 pub characters-spec : {M : Type 1} → statement M
-characters-spec = tie.close (tie.spec Inv-loop μ-loop loop-holds bits-requires letter-requires add-i loop-less loop-again returns)
+characters-spec = tie.close (tie.spec Inv-loop μ-loop loop-holds next-requires letter-requires add-i loop-less loop-again returns)
