@@ -41,8 +41,8 @@ pub settle-full : (c : Bool) (p m : ℕ) (R : List Rec) (w : List ℕ) → lengt
 unfolding settle
 settle-full c p m R w h = rw (lt-leb (need R) (length w) h)
 
--- five words to a record, so the lent words keep their number
-flat-need : (R : List Rec) → length (flat R) ≡ need R
+-- the words of records are as many as they need, so the lent words keep their number
+pub flat-need : (R : List Rec) → length (flat R) ≡ need R
 unfolding flat need
 flat-need [] = refl
 flat-need (rec t m v s q ∷ R) = omega (arith, flat-need R)

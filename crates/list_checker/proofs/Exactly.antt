@@ -10,8 +10,7 @@ use Rattle.atn.specs.Reading.{Rec}
 use Rattle.atn.specs.Entries.{Reply, accept, ranOut, badly, unsupplied, readFrame, accepted, flat, need, settle, Test, test}
 use Rattle.atn.specs.Demands.{passes, Message}
 use Rattle.atn.proofs.Demands.{clean-message, message-clean}
-use Rattle.atn.proofs.Outcomes.{settle-fits, decide-go}
-use Rattle.records.proofs.Sizes.{flat-need}
+use Rattle.atn.proofs.Outcomes.{settle-fits, decide-go, flat-need}
 use Rattle.list_comparison.specs.declared.Checked.the-variants.{Yes}
 use Rattle.list_comparison.proofs.YesLaws.{same-yes, yes-same}
 use Rattle.list_checker.specs.declared.entries.Entry.{Entry}

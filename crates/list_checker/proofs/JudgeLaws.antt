@@ -15,8 +15,7 @@ use Rattle.atn.specs.Reading.{Rec}
 use Rattle.atn.specs.Entries.{Reply, accept, ranOut, badly, unsupplied, Outcome, accepted, refused, flat, need, settle, Test, test, decide}
 use Rattle.atn.specs.Demands.{passes, NoRoom}
 use Rattle.atn.proofs.Reach.{split}
-use Rattle.atn.proofs.Outcomes.{Settled, settle-fits, settle-full, settle-refused, answers-differ, decide-accepted, decide-refused}
-use Rattle.records.proofs.Sizes.{flat-need}
+use Rattle.atn.proofs.Outcomes.{Settled, settle-fits, settle-full, settle-refused, answers-differ, decide-accepted, decide-refused, flat-need}
 use Rattle.list_comparison.specs.declared.Checked.{Checked}
 use Rattle.list_comparison.specs.declared.Checked.the-variants.{Refused}
 use Rattle.list_comparison.specs.Compared.{compared}

@@ -10,7 +10,7 @@ use lib.ListN.{length, take, drop, length-drop}
 use lib.Seq.{getD-take, getD-drop, drop-drop, length-take-le}
 use Rattle.atn.specs.Entries.{flat, need}
 use Rattle.atn.specs.Reading.{Rec, rec}
-use Rattle.records.proofs.Sizes.{flat-need}
+use Rattle.atn.proofs.Outcomes.{flat-need}
 use Rattle.list_comparison.specs.declared.Checked.the-variants.{Yes, Differs, Missing, TooMany, Incomplete}
 use Rattle.list_comparison.specs.Compared.{alike, compared}
 

@@ -10,10 +10,11 @@ use Rattle.atn.specs.Entries.{flat, need}
 use Rattle.atn.specs.Places.{Rising}
 use Rattle.atn.proofs.Places.{rising-ends}
 use Rattle.atn.proofs.Shift.{displaced}
+use Rattle.atn.proofs.Outcomes.{flat-need}
 use Rattle.records.specs.Space.{size, space}
 use Rattle.records.specs.Told.{Told}
 use Rattle.records.specs.Moves.{relocated, raised, raisedPlaces}
-use Rattle.records.proofs.Sizes.{flat-length, flat-need, need-space}
+use Rattle.records.proofs.Sizes.{flat-length, need-space}
 
 ---------------------------------------------------------------- words
 

@@ -30,12 +30,6 @@ pub space-grows : {n m : ℕ} → n ≤ m → space n ≤ space m
 unfolding space size need
 space-grows h = omega arith
 
--- the words of records are as many as they need
-pub flat-need : (rs : List Rec) → length (flat rs) ≡ need rs
-unfolding flat need
-flat-need [] = refl
-flat-need (rec t m v s q ∷ rs) = let e = flat-need rs in omega arith
-
 -- a record more
 pub space-more : (n : ℕ) → space (n + 1) ≡ space n + size
 unfolding space

@@ -8,9 +8,10 @@ use lib.ListN.{length, take, drop, length-append, length-drop}
 use borrow.Author.Tests.{le-leb}
 use Rattle.atn.specs.Reading.{Rec}
 use Rattle.atn.specs.Entries.{Reply, accept, accepted, Outcome, flat, need, settle}
+use Rattle.atn.proofs.Outcomes.{flat-need}
 use Rattle.records.specs.Space.{space}
 use Rattle.records.specs.Told.{Told}
-use Rattle.records.proofs.Sizes.{need-space, flat-need}
+use Rattle.records.proofs.Sizes.{need-space}
 use Rattle.records.proofs.Telling.{told-first, told-length}
 use Rattle.records.proofs.Passes.{counted}
 
