@@ -1,10 +1,11 @@
--- The elements of any lent table tell no places, and never carry on past the end of their window.
-use mathlib.Core.Path.{_≡_, refl}
+-- The elements of any lent table are as many as its bytes, tell no places, and never carry on past the end of their window.
+use mathlib.Core.Path.{_≡_, refl, ap}
 use mathlib.Core.Bool.{Bool, true, _&&_}
 use mathlib.Core.List.{List, [], _∷_}
 use Prim.Native.Nat.{ℕ, zero, suc}
-use lib.ListN.{getD}
-use Rattle.atn.specs.Format.{Fmt}
+use lib.ListN.{length, getD}
+use Rattle.x691.specs.Encoding.{count}
+use Rattle.atn.specs.Format.{Fmt, alternativesOf}
 use Rattle.atn.specs.Messages.{arguments, noReader, argumentOf, elements, messageData, atcMessage}
 use Rattle.atn.proofs.Inverse.{both}
 use Rattle.atn.proofs.Tame.{keepsStop, tame, tameFields, tameChoice}
@@ -30,6 +31,11 @@ argument-placeless : (k : ℕ) → placeless (argumentOf k) ≡ true
 unfolding argumentOf placeless placelessFields placelessChoice every
 argument-placeless zero = refl
 argument-placeless (suc k) = every-get placeless arguments noReader k refl refl
+
+pub elements-count : (table : List ℕ) → count (alternativesOf (elements table)) ≡ length table
+unfolding elements count
+elements-count [] = refl
+elements-count (k ∷ table) = ap suc (elements-count table)
 
 pub elements-firm : (table : List ℕ) → firmChoice (elements table) ≡ true
 unfolding elements tameChoice

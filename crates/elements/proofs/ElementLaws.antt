@@ -1,18 +1,18 @@
 -- The elements: an index into the lent table, then the argument that its byte names.
-use mathlib.Core.Path.{_≡_, refl, sym, ap, _∙_}
+use mathlib.Core.Path.{_≡_, refl, sym, _∙_}
 use mathlib.Core.Bool.{false}
 use mathlib.Core.List.{List, [], _∷_}
 use Prim.Native.Nat.{ℕ, zero, suc, _+_, _-_, _*_, _≤_, _<_}
 use native.Mathlib.Omega.{arith}
 use lib.ListN.{length, getD}
 use Rattle.x691.specs.Bits.{bitOf}
-use Rattle.x691.specs.Encoding.{width, count, highest}
+use Rattle.x691.specs.Encoding.{width, highest}
 use Rattle.atn.specs.Format.{bad, alternativesOf}
 use Rattle.atn.specs.Messages.{argumentOf, elements}
 use Rattle.atn.specs.Reading.{Rec, rec, Ctx, Ans, ok, stop, then, or, mark, times, laxly, pull, read, readChoice}
 use Rattle.atn.proofs.Tame.{tame}
 use Rattle.atn.proofs.Firm.{isPast, firm-read}
-use Rattle.atn.proofs.Elements.{elements-firm}
+use Rattle.atn.proofs.Elements.{elements-count, elements-firm}
 use Rattle.cursor.specs.declared.place.Cursor.{Cursor}
 use Rattle.cursor.specs.declared.place.Got.{Got}
 use Rattle.cursor.specs.Place.{put, stopped, Pulls, Takes}
@@ -28,14 +28,9 @@ use Rattle.elements.specs.Elements.{argumentAt, elementFormat, elementAt
 
 ---------------------------------------------------------------- the table
 
-element-count : (table : List ℕ) → count (alternativesOf (elements table)) ≡ length table
-unfolding elements count
-element-count [] = refl
-element-count (k ∷ table) = ap suc (element-count table)
-
 pub index-bits : (table : List ℕ) → width (highest (alternativesOf (elements table))) ≡ width (length table - 1)
 unfolding highest
-index-bits table = rw (element-count table)
+index-bits table = rw (elements-count table)
 
 listed : (table : List ℕ) (v : ℕ) (x : Ctx) (b : ℕ → ℕ) (e p : ℕ) → v < length table → readChoice (elements table) v x b e p ≡ read (argumentOf (getD table v 0)) x b e p
 unfolding elements readChoice

@@ -1,5 +1,5 @@
 -- How many bits the messages have at most, and what their inner strings hold; how long the table is.
-use mathlib.Core.Path.{_≡_, refl, ap}
+use mathlib.Core.Path.{_≡_, refl}
 use mathlib.Core.Bool.{true}
 use mathlib.Core.Option.{some}
 use mathlib.Core.List.{List, [], _∷_}
@@ -15,7 +15,7 @@ use Rattle.atn.specs.Format.{Fmt, alternativesOf}
 use Rattle.atn.specs.Reading.{flags}
 use Rattle.atn.specs.Messages.{noReader, arguments, argumentOf, elements, constrainedData, messageData, atcMessage, aircraftPdus, groundPdus, acse}
 use Rattle.atn.specs.Entries.{pdus, cmOf}
-use Rattle.atn.proofs.Elements.{every, every-get}
+use Rattle.atn.proofs.Elements.{every, every-get, elements-count}
 use Rattle.record_lists.specs.Kinds.{kindOf}
 use Rattle.record_lists.specs.Most.{most, mostAlts}
 use Rattle.record_lists.proofs.Messages.{some-is, nothing}
@@ -38,11 +38,6 @@ elements-most : (t : List ℕ) → mostAlts (elements t) ≤ 200
 unfolding elements most
 elements-most [] = omega arith
 elements-most (k ∷ t) = omega (arith, argument-most k, elements-most t)
-
-elements-count : (t : List ℕ) → count (alternativesOf (elements t)) ≡ length t
-unfolding elements count
-elements-count [] = refl
-elements-count (k ∷ t) = ap (λ n. suc n) (elements-count t)
 
 elements-width : (t : List ℕ) → length t ≤ 256 → width (highest (alternativesOf (elements t))) ≤ 8
 unfolding highest
