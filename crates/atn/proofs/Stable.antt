@@ -1,6 +1,6 @@
 -- Stable: an answer that is not open hangs on the bits up to its reach and on nothing else. Cut short: with fewer bits the answer is open.
 use mathlib.Core.Path.{_≡_, refl, sym, ap, _∙_}
-use mathlib.Core.Bool.{Bool, true, false}
+use mathlib.Core.Bool.{Bool, true, false, true≢false}
 use mathlib.Core.List.{List, [], _∷_}
 use Prim.Native.Nat.{ℕ, zero, suc, _+_, _-_, _*_, _≤_, _<_}
 use native.Mathlib.Nat.{suc-mul, add-comm}
@@ -22,9 +22,6 @@ pub record Becomes (b c : ℕ → ℕ) (u : ℕ) (x y : Ans) : Type 0 where
   pub whole : isOpen x ≡ false → Agree b c (reach x) → reach x ≤ u → y ≡ x
   pub short : isOpen x ≡ false → u < reach x → Agree b c u → isOpen y ≡ true
 
-not-both : {A : Type 0} → true ≡ false → A
-not-both h = let z : _≡_ {A = ℕ} 0 1 = cc in absurd (omega arith)
-
 out-open : (k r : ℕ) (R : List Rec) (m : ℕ) → isOpen (stop (out k) r R m) ≡ true
 unfolding isOpen opens
 out-open k r R m = refl
@@ -37,7 +34,7 @@ module _ (b c : ℕ → ℕ) (e u : ℕ) where
 
   -- an answer that may yet change says nothing
   rel-open : {x y : Ans} → isOpen x ≡ true → Becomes b c u x y
-  rel-open q = record { whole = λ o _ _. not-both (sym q ∙ o); short = λ o _ _. not-both (sym q ∙ o) }
+  rel-open q = record { whole = λ o _ _. absurd (true≢false (sym q ∙ o)); short = λ o _ _. absurd (true≢false (sym q ∙ o)) }
 
   rel-fork : (x : ℕ) {y y′ z z′ : Ans} → Becomes b c u y y′ → Becomes b c u z z′ → Becomes b c u (fork x y z) (fork x y′ z′)
   unfolding fork
@@ -71,7 +68,7 @@ module _ (b c : ℕ → ℕ) (e u : ℕ) where
 
   then-open : (a : Ans) (k : ℕ → Ans) → isOpen a ≡ true → isOpen (then a k) ≡ true
   unfolding then isOpen
-  then-open (ok q R m) k h = not-both (sym h)
+  then-open (ok q R m) k h = absurd (true≢false (sym h))
   then-open (past l q R m) k h = late-is l R m (k q) .1
   then-open (stop w q R m) k h = h
 

@@ -1,6 +1,6 @@
 -- Texts: a size and what follows it, characters that are passed over, and digits one after another.
 use mathlib.Core.Path.{_≡_, refl, sym, ap, _∙_}
-use mathlib.Core.Bool.{Bool, true, false}
+use mathlib.Core.Bool.{Bool, true, false, true≢false, false≢true}
 use mathlib.Core.List.{List, [], _∷_}
 use Prim.Native.Nat.{ℕ, zero, suc, _+_, _-_, _*_, _/_, _%_, _^_, _≤_, _<_}
 use native.Mathlib.Nat.{zero-add, zero-mul, add-zero, suc-add, mod-eq-of-lt}
@@ -89,12 +89,9 @@ module _ {r : Range} (z : SizeRow r) where
 
 ---------------------------------------------------------------- whether bits are ahead
 
-never : {A : Type 0} {t : Bool} → t ≡ true → t ≡ false → A
-never p q = let z : _≡_ {A = ℕ} 0 1 = cc in absurd (omega arith)
-
 module _ {s : List ℕ} {c : Cursor} {n : ℕ} where
   pub not-ahead : (Inside s c → c .why ≡ 0 → c .end < c .at + n) → Ahead s c n false
-  not-ahead h = record { goes = λ q. never q refl; room = λ q. never q refl; held = λ q. never q refl; short = λ _ i z. h i z }
+  not-ahead h = record { goes = λ q. absurd (false≢true q); room = λ q. absurd (false≢true q); held = λ q. absurd (false≢true q); short = λ _ i z. h i z }
 
   pub ahead-held : {t : Bool} → c .why ≡ 0 → c .at ≤ c .end → n ≤ c .end - c .at → t ≡ leb (c .end) (length s * 8) → Ahead s c n t
   ahead-held {t} z l r h =
@@ -217,7 +214,7 @@ reads-cut {k} {s} {c} {d} {R} S h r = record { led = λ i. go i (r .led i) }
   where
     go : Inside s c → Led k c d R → Led k c d S
     go i (stayed x q) = stayed x q
-    go i (went p m z a l q) = never (ap good a) (h i z)
+    go i (went p m z a l q) = absurd (true≢false (sym (ap good a) ∙ h i z))
     go i (failed w p m T n z a l q) = failed w p m T n z a l q
 
 module _ (b : ℕ → ℕ) (e w n : ℕ) where

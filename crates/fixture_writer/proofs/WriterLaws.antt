@@ -1,6 +1,6 @@
 -- The answer, step by step: what is refused, and what is written.
 use mathlib.Core.Path.{_≡_, refl, sym, ap, _∙_}
-use mathlib.Core.Bool.{Bool, true, false, cond, _&&_}
+use mathlib.Core.Bool.{Bool, true, false, cond, _&&_, false≢true}
 use mathlib.Core.Option.{none, some}
 use mathlib.Core.List.{List, [], _++_}
 use Prim.Native.Nat.{ℕ, zero, suc, _+_, _-_, _*_, _/_, _%_, _^_, _≤_, _<_}
@@ -22,7 +22,7 @@ use Rattle.record_lists.specs.Parse.{Got, no, got, parse}
 use Rattle.record_lists.specs.Write.{encoded, write}
 use Rattle.record_lists.specs.Message.{recordsOf, bytesNeeded, bytesOf, list-fits, bitsOfMessage, settled, write-message}
 use Rattle.record_lists.specs.Message as message
-use Rattle.record_lists.proofs.Forth.{differ, forth}
+use Rattle.record_lists.proofs.Forth.{forth}
 use Rattle.record_lists.proofs.Longest.{longest}
 use Rattle.message_nodes.specs.Table.{table, depth}
 use Rattle.message_nodes.specs.Roots.{rootOf}
@@ -150,7 +150,7 @@ module _ (k d : ℕ) (down up W s X : List ℕ) where
           where
             go : (g : Got (Value (typeOf f))) → Wrote (λ v. encode (typeOf f) v) (λ i. items (bitOf s) W m i) m front V₀ p V₁ g → encoded f g ≡ none
             go no w = refl
-            go (got v S) w = differ (sym (w .on) ∙ h)
+            go (got v S) w = absurd (false≢true (sym (w .on) ∙ h))
 
         pub says-8-left : (r : Written) → p .off ≡ false → p .next < m → r ≡ refusedOf 8 0 → Says r X all
         unfolding encoded
@@ -160,7 +160,7 @@ module _ (k d : ℕ) (down up W s X : List ℕ) where
             some-left v S e = rw (e ∙ items-cons (bitOf s) W m (p .next) l)
 
             go : (g : Got (Value (typeOf f))) → Wrote (λ v. encode (typeOf f) v) (λ i. items (bitOf s) W m i) m front V₀ p V₁ g → encoded f g ≡ none
-            go no w = differ (sym h ∙ w)
+            go no w = absurd (false≢true (sym h ∙ w))
             go (got v S) w = some-left v S (w .left)
 
         -- the whole list is taken
@@ -177,7 +177,7 @@ module _ (k d : ℕ) (down up W s X : List ℕ) where
         whole h l = go (parse f (0, 0) list) refl got-it
           where
             go : (g : Got (Value (typeOf f))) → parse f (0, 0) list ≡ g → Wrote (λ v. encode (typeOf f) v) (λ i. items (bitOf s) W m i) m front V₀ p V₁ g → Whole
-            go no e w = differ (sym h ∙ w)
+            go no e w = absurd (false≢true (sym h ∙ w))
             go (got v S) e w =
                 let n : S ≡ [] = w .left ∙ items-end (bitOf s) W m (p .next) l in
                 let y : parse f (0, 0) list ≡ got v [] = e ∙ ap (λ (z : List Item). got v z) n in

@@ -1,6 +1,6 @@
 -- What a character more makes of what was taken of a text.
 use mathlib.Core.Path.{_≡_, refl, sym, _∙_, ap}
-use mathlib.Core.Bool.{Bool, true, false, cond}
+use mathlib.Core.Bool.{Bool, true, false, cond, true≢false}
 use mathlib.Core.List.{List, [], _∷_, _++_, append-nil, append-assoc}
 use mathlib.Core.Option.{Option, none, some}
 use Prim.Native.Nat.{ℕ, suc, _+_, _*_, _/_, _%_, _≤_, _<_}
@@ -65,9 +65,6 @@ over : (m n : ℕ) (t : Bool) → t ≡ ltb m n → (t ≡ false → m ≤ n) �
 over m n true e h = let l = ltb-true m n (sym e) in sym (lt-ltb m (n + 1) (omega arith))
 over m n false e h = let l = h refl in sym (lt-ltb m (n + 1) (omega arith))
 
-never : {A : Type 0} → true ≡ false → A
-never e = absurd (let z : _≡_ {A = ℕ} 0 1 = cc in omega arith)
-
 -- a digit in the higher half of its octet
 higher-on : (frame rest : List ℕ) (n c : ℕ) (g : Bool) → n < length frame → let f = set frame n (digit c % 16 * 16) in cond g (behind (take n frame) (octets (c ∷ rest))) none ≡ cond (cond g (ltb (digit c) 16) false) (behind (take n f) (waiting (getD f n 0 / 16) rest)) none
 unfolding behind
@@ -115,7 +112,7 @@ module _ (text frame : List ℕ) (s : Digits) (c : ℕ) (so : SoFar text frame s
 
   -- the frame is full
   pub full : s .count ≡ length frame → SoFar (text ++ (c ∷ [])) frame (record { count = s .count; half = s .half; good = s .good; long = true })
-  full l = record { long = rw one-longer (over (length frame * 2) (length text) (s .long) (so .long) (λ q. omega (arith, so .counted q))); counted = λ q. never q; is = λ q. never q }
+  full l = record { long = rw one-longer (over (length frame * 2) (length text) (s .long) (so .long) (λ q. omega (arith, so .counted q))); counted = λ q. absurd (true≢false q); is = λ q. absurd (true≢false q) }
 
   module _ (l : s .count < length frame) where
     pub higher : s .half ≡ false → SoFar (text ++ (c ∷ [])) (set frame (s .count) (digit c % 16 * 16)) (record { count = s .count; half = true; good = cond (s .good) (ltb (digit c) 16) false; long = s .long })

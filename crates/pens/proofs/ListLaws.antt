@@ -1,6 +1,6 @@
 -- How a list is written: its members first, and then their number, before them.
 use mathlib.Core.Path.{_≡_, refl, sym, ap, _∙_}
-use mathlib.Core.Bool.{Bool, true, false, cond}
+use mathlib.Core.Bool.{Bool, true, false, cond, false≢true}
 use mathlib.Core.List.{List, [], _∷_, _++_}
 use Prim.Native.Nat.{ℕ, zero, suc, _+_, _-_, _≤_, _<_}
 use native.Mathlib.Omega.{arith}
@@ -18,7 +18,7 @@ use Rattle.bit_writer.proofs.PutLaws.{setBits-join}
 use Rattle.record_lists.specs.Items.{Item}
 use Rattle.record_lists.specs.Clear.{firsts}
 use Rattle.record_lists.specs.Parse.{Got, no, got, opens, keep, feed, turn, several, parse}
-use Rattle.record_lists.proofs.Forth.{differ, feed-inv, turn-inv}
+use Rattle.record_lists.proofs.Forth.{feed-inv, turn-inv}
 use Rattle.pens.specs.declared.Pen.{Pen}
 use Rattle.pens.specs.Rest.{items}
 use Rattle.pens.specs.Writes.{limit, Took, Wrote, Writes, Skips, Part, Repeats}
@@ -55,7 +55,7 @@ module _ (b : ℕ → ℕ) (W : List ℕ) (m : ℕ) (f : Fmt) (e i : ℕ) (p q r
 
   -- the list is refused already
   pub repeats-still : (n : ℕ) → p .off ≡ true → q .off ≡ true → Repeats f e i n b W m p X q Y 0
-  repeats-still n h o = record { writes = writes-still _ _ T m p X q Y h o; counts = λ z l vs S j. differ (sym z ∙ h); few = omega arith }
+  repeats-still n h o = record { writes = writes-still _ _ T m p X q Y h o; counts = λ z l vs S j. absurd (false≢true (sym z ∙ h)); few = omega arith }
 
   pub repeats-more : (n k : ℕ) → opens (firsts f) (T (p .next)) ≡ true → Part f (e, i) b W m p X q Y → Repeats f e (i + 1) n b W m q Y r Z k → Repeats f e i (suc n) b W m p X r Z (k + 1)
   unfolding several joined
@@ -134,4 +134,4 @@ module _ (b : ℕ → ℕ) (W : List ℕ) (m : ℕ) (x : Ctx) (lo hi : ℕ) (f :
     where
       go : (g : Got (List (Value (typeOf f)))) → Wrote (λ vs. joined (λ v. encode (typeOf f) v) vs) T′ m q X r Y g → Wrote (λ v. encode (typeOf (many lo hi f)) v) T′ m p X o Z (keep (λ vs. leb lo (length vs)) g)
       go no w = k
-      go (got vs S) w = differ (sym (w .on) ∙ h)
+      go (got vs S) w = absurd (false≢true (sym (w .on) ∙ h))

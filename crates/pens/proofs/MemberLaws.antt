@@ -17,7 +17,6 @@ use Rattle.bit_writer.proofs.PutLaws.{setBits-join, setBits-under}
 use Rattle.record_lists.specs.Items.{Item, plain}
 use Rattle.record_lists.specs.Clear.{firsts}
 use Rattle.record_lists.specs.Parse.{Got, no, got, opens, begins, feed, turn, perhaps, parse, parseFields}
-use Rattle.record_lists.proofs.Forth.{differ}
 use Rattle.pens.specs.declared.Pen.{Pen}
 use Rattle.pens.specs.Rest.{items}
 use Rattle.pens.specs.Writes.{limit, Took, Wrote, Writes, Skips, Part, TookMembers, WroteMembers, WritesMembers, Members}

@@ -1,6 +1,6 @@
 -- How a part is written by its format: each law for one form of it.
 use mathlib.Core.Path.{_≡_, refl, sym, ap, _∙_}
-use mathlib.Core.Bool.{Bool, true, false, cond}
+use mathlib.Core.Bool.{Bool, true, false, cond, false≢true}
 use mathlib.Core.Option.{Option, none, some}
 use mathlib.Core.Logic.{_⊎_, inl, inr}
 use mathlib.Core.List.{List, [], _∷_, _++_}
@@ -20,7 +20,7 @@ use Rattle.bit_writer.specs.Put.{setBits}
 use Rattle.bit_writer.proofs.PutLaws.{setBits-join}
 use Rattle.record_lists.specs.Items.{Item, plain}
 use Rattle.record_lists.specs.Parse.{Got, no, got, peel, feed, turn, keep, parse, parsePick}
-use Rattle.record_lists.proofs.Forth.{differ, forth, forthPick}
+use Rattle.record_lists.proofs.Forth.{forth, forthPick}
 use Rattle.record_lists.specs.Most.{most}
 use Rattle.record_lists.proofs.Longest.{longest}
 use Rattle.pens.specs.declared.Pen.{Pen}
@@ -157,7 +157,7 @@ module _ (b : ℕ → ℕ) (W : List ℕ) (m : ℕ) (x : Ctx) (f : Fmt) (p o d :
     where
       go : (k : Got (Value (typeOf f))) → Wrote (λ v. encode (typeOf f) v) T′ m o D d E k → k ≡ no
       go no w = refl
-      go (got v S) w = differ (sym (w .on) ∙ h)
+      go (got v S) w = absurd (false≢true (sym (w .on) ∙ h))
 
   keep-no : (k : Got (Value (typeOf f))) → k ≡ no → keep (λ v. ltb (length (encode (typeOf f) v)) 16384) k ≡ no
   unfolding keep

@@ -1,6 +1,6 @@
 -- Parts written one after another.
 use mathlib.Core.Path.{_≡_, refl, sym, ap, _∙_}
-use mathlib.Core.Bool.{Bool, true, false, cond}
+use mathlib.Core.Bool.{Bool, true, false, cond, false≢true}
 use mathlib.Core.List.{List, [], _∷_, _++_}
 use Prim.Native.Nat.{ℕ, zero, suc, _+_, _≤_, _<_}
 use native.Mathlib.Omega.{arith}
@@ -10,7 +10,6 @@ use Rattle.bit_writer.specs.Put.{setBits}
 use Rattle.bit_writer.proofs.PutLaws.{setBits-join}
 use Rattle.record_lists.specs.Items.{Item}
 use Rattle.record_lists.specs.Parse.{Got, no, got, same, begins, peel, feed, turn}
-use Rattle.record_lists.proofs.Forth.{differ}
 use Rattle.pens.specs.declared.Pen.{Pen}
 use Rattle.pens.specs.Writes.{limit, Took, Wrote, Writes, Inks}
 use Rattle.pens.proofs.GotLaws.{writes-none}
@@ -18,10 +17,10 @@ use Rattle.pens.proofs.GotLaws.{writes-none}
 module _ {A : Type 0} (enc : A → List ℕ) (g : List Item → Got A) (T : ℕ → List Item) (m : ℕ) (p : Pen) (X : List ℕ) (q : Pen) (Y : List ℕ) where
   -- the list is refused already
   pub writes-still : p .off ≡ true → q .off ≡ true → Writes enc g T m p X q Y
-  writes-still h k = record { still = λ _. k; goes = λ z l. differ (sym z ∙ h) }
+  writes-still h k = record { still = λ _. k; goes = λ z l. absurd (false≢true (sym z ∙ h)) }
 
   pub writes-got : {v : A} {S : List Item} → p .off ≡ false → g (T (p .next)) ≡ got v S → Took enc T m p X q Y v S → Writes enc g T m p X q Y
-  writes-got h e k = record { still = λ z. differ (sym h ∙ z); goes = λ z l. rw e k }
+  writes-got h e k = record { still = λ z. absurd (false≢true (sym h ∙ z)); goes = λ z l. rw e k }
 
 ---------------------------------------------------------------- bits
 
@@ -35,7 +34,7 @@ ink-near p X n v q Y a b c d = record { next-stays = a; off-stays = b; puts = λ
 
 peel-yes : (x : Item) (R : List Item) → begins x R ≡ true → peel (x ∷ []) zero R ≡ got zero (drop 1 R)
 unfolding begins peel
-peel-yes x [] h = differ h
+peel-yes x [] h = absurd (false≢true h)
 peel-yes x (j ∷ R) h = rw h
 
 peel-not : (x : Item) (R : List Item) → begins x R ≡ false → peel (x ∷ []) zero R ≡ no

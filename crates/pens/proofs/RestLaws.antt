@@ -1,6 +1,6 @@
 -- The record at the front of the rest, and what it shows.
 use mathlib.Core.Path.{_≡_, refl, sym, ap, _∙_}
-use mathlib.Core.Bool.{Bool, true, false, cond, _&&_, _||_}
+use mathlib.Core.Bool.{Bool, true, false, cond, _&&_, _||_, false≢true}
 use mathlib.Core.List.{List, [], _∷_}
 use Prim.Native.Nat.{ℕ, suc, _+_, _-_, _*_, _≤_, _<_}
 use native.Mathlib.Omega.{arith}
@@ -13,7 +13,6 @@ use Rattle.atn.specs.Reading.{rec}
 use Rattle.record_lists.specs.Items.{Item, plain, bits, tagOf, look}
 use Rattle.record_lists.specs.Kinds.{spanTag}
 use Rattle.record_lists.specs.Parse.{opens, begins, same}
-use Rattle.record_lists.proofs.Forth.{differ}
 use Rattle.record_lists.specs.Message.{recordsFrom}
 use Rattle.record_lists.proofs.First.{and-no}
 use Rattle.pens.specs.Rest.{rest, items}
@@ -64,7 +63,7 @@ unfolding same
 same-item b t e v s u f w r h = go (spanTag u) refl
   where
     go : (a : Bool) → spanTag u ≡ a → same (plain t e v s) (cond a (bits u f (stretch b w r)) (plain u f w r)) ≡ (eqb t u && eqb e f) && (eqb v w && eqb s r)
-    go true q = rw (ne-eqb t u (λ z. differ (sym h ∙ ap spanTag z ∙ q)))
+    go true q = rw (ne-eqb t u (λ z. false≢true (sym h ∙ ap spanTag z ∙ q)))
     go false q = refl
 
 module _ (b : ℕ → ℕ) (W : List ℕ) (m i : ℕ) where

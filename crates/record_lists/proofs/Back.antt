@@ -1,6 +1,6 @@
 -- From what a plain value in range shows, the value is got back, where the format is clear.
 use mathlib.Core.Path.{_≡_, refl, sym, ap, _∙_}
-use mathlib.Core.Bool.{Bool, true, false, not, _&&_, _||_}
+use mathlib.Core.Bool.{Bool, true, false, not, _&&_, _||_, false≢true}
 use mathlib.Core.Option.{none, some}
 use mathlib.Core.Logic.{inl, inr}
 use mathlib.Core.List.{List, [], _∷_, _++_, append-assoc}
@@ -26,7 +26,6 @@ use Rattle.record_lists.specs.Shown.{packed, spelt, inLetters, spanned, 
 use Rattle.record_lists.specs.Clear.{apart, solid, solidFields, firsts, firstsFields, single, unlike, ahead, clear, clearLetters, clearFields, clearAlts}
 use Rattle.record_lists.specs.Parse.{opens, valueIn, valueOf, secondIn, secondOf, bitsIn, bitsAt, sameNumbers, same, begins, above, characters, spelled, uncoded, codeOf, textOf, unitsOf, allBelow, goodSize, Got, got, peel, leaf, keep, feed, turn, several, perhaps, parse, parseFields, parsePick}
 use Rattle.record_lists.specs.Plain.{Says, Unless, AllFrom, Plain, PlainFields, PlainPick}
-use Rattle.record_lists.proofs.Forth.{differ}
 use Rattle.record_lists.proofs.First.{Lead, Follows, lead-follow, length-span, span-some, lead-all, lead, leadFields, opens-yes, solid-says, opens-no}
 
 ---------------------------------------------------------------- items
@@ -163,7 +162,7 @@ unfolding member
 eqb-not t u h = go (eqb t u) h
   where
     go : (a : Bool) → a || false ≡ false → a ≡ false
-    go true q = differ (sym q)
+    go true q = absurd (false≢true (sym q))
     go false q = refl
 
 none-at : (t : ℕ) (R : List Item) → opens (t ∷ []) R ≡ false → bitsAt t R ≡ []
@@ -212,22 +211,22 @@ unfolding single shown
 single-zero (num t lo hi) v x h = refl
 single-zero (listed t hi xs) v x h = refl
 single-zero (name t hi) v x h = refl
-single-zero (text t n c lo hi) v x h = differ h
-single-zero (span t w lo hi) v x h = differ h
-single-zero (anySpan t w) v x h = differ h
+single-zero (text t n c lo hi) v x h = absurd (false≢true h)
+single-zero (span t w lo hi) v x h = absurd (false≢true h)
+single-zero (anySpan t w) v x h = absurd (false≢true h)
 single-zero (skipped m) v x h = absurd v
 single-zero (small m t) v x h = absurd v
-single-zero null v x h = differ h
+single-zero null v x h = absurd (false≢true h)
 single-zero (noted t y s f) v x h = omega (arith, leb-true s 0 h)
 single-zero (placed t f) v x h = refl
 single-zero (marked m) v x h = absurd v
 single-zero (refuse w m) v x h = absurd v
 single-zero (element f) v x h = single-zero f v (x .1, x .1) h
 single-zero (ext f g) v x h = single-zero f v x h
-single-zero (seq fs) v x h = differ h
-single-zero (loose fs) v x h = differ h
+single-zero (seq fs) v x h = absurd (false≢true h)
+single-zero (loose fs) v x h = absurd (false≢true h)
 single-zero (choice t fs) v x h = refl
-single-zero (many lo hi f) v x h = differ h
+single-zero (many lo hi f) v x h = absurd (false≢true h)
 single-zero (inner f) v x h = single-zero f v x h
 single-zero (soft m r f) v x h = single-zero f v x h
 single-zero (lax m j f) v x h = single-zero f v x h
@@ -249,7 +248,7 @@ other-tag t m y s F b [] h k = refl
 other-tag t m y s F b (plain u n v r ∷ l) h k = go (eqb t u) refl
   where
     go : (a : Bool) → eqb t u ≡ a → (a && eqb m n) && (eqb y v && eqb s r) ≡ false
-    go true q = differ (sym h ∙ rw (eqb-true t u q) k)
+    go true q = absurd (false≢true (sym h ∙ rw (eqb-true t u q) k))
     go false q = refl
 other-tag t m y s F b (bits u n xs ∷ l) h k = refl
 

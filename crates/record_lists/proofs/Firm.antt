@@ -1,6 +1,6 @@
 -- Formats all of whose values are plain, by a test of the format: the messages of CM and of association control.
 use mathlib.Core.Path.{_≡_, refl, sym, ap, _∙_}
-use mathlib.Core.Bool.{Bool, true, false, _&&_}
+use mathlib.Core.Bool.{Bool, true, false, _&&_, false≢true}
 use mathlib.Core.Option.{Option, none, some}
 use mathlib.Core.Logic.{_⊎_, inl, inr}
 use mathlib.Core.List.{List, [], _∷_}
@@ -13,7 +13,6 @@ use Rattle.atn.specs.Messages.{cmGround, cmAircraft, acse}
 use Rattle.atn.specs.Reading.{Ctx}
 use Rattle.atn.proofs.Inverse.{both}
 use Rattle.record_lists.specs.Clear.{solid, firsts, single, unlike}
-use Rattle.record_lists.proofs.Forth.{differ}
 use Rattle.record_lists.specs.Plain.{Says, Unless, AllFrom, Plain, PlainFields, PlainPick}
 
 -- every optional part shows something, and what stands for an absent one is never shown by one that is there
@@ -55,7 +54,7 @@ unfoldable mutual
 
 seen-to : (b : Bool) (P : Type 0) → b ≡ true → Unless b P
 seen-to true P h = tt
-seen-to false P h = differ h
+seen-to false P h = absurd (false≢true h)
 
 all-from : {A : Type 0} (P : ℕ → A → Type 0) → ((i : ℕ) (a : A) → P i a) → (i : ℕ) (xs : List A) → AllFrom P i xs
 all-from P h i [] = tt

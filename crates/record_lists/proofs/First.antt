@@ -1,6 +1,6 @@
 -- What a value shows begins with one of its format's first tags.
 use mathlib.Core.Path.{_≡_, refl, sym, _∙_}
-use mathlib.Core.Bool.{Bool, true, false, cond, not, _&&_, _||_}
+use mathlib.Core.Bool.{Bool, true, false, cond, not, _&&_, _||_, false≢true}
 use mathlib.Core.Option.{none, some}
 use mathlib.Core.List.{List, [], _∷_, _++_}
 use Prim.Native.Nat.{ℕ, zero, suc, _+_, _-_, _*_, _/_, _^_, _≤_, _<_}
@@ -24,7 +24,6 @@ use Rattle.record_lists.specs.Shown.{packed, spelt, inLetters, spanned, 
 use Rattle.record_lists.specs.Clear.{apart, solid, solidFields, firsts, firstsFields, ahead}
 use Rattle.record_lists.specs.Parse.{opens}
 use Rattle.record_lists.specs.Plain.{Says}
-use Rattle.record_lists.proofs.Forth.{differ}
 
 -- a list that begins with one of F, or is empty where it need not show anything
 abbrev pub Lead : List ℕ → Bool → List Item → Type 0
@@ -48,7 +47,7 @@ or-right false b h = h
 
 member-left : (t : ℕ) (F G : List ℕ) → member t F ≡ true → member t (F ++ G) ≡ true
 unfolding member
-member-left t [] G h = differ h
+member-left t [] G h = absurd (false≢true h)
 member-left t (u ∷ F) G h = go (eqb t u) h (λ q. member-left t F G q)
   where
     go : (a : Bool) → a || member t F ≡ true → (member t F ≡ true → member t (F ++ G) ≡ true) → a || member t (F ++ G) ≡ true
@@ -139,7 +138,7 @@ mutual
   lead (name t hi) v x g = member-own t
   lead (text t n c lo hi) v x g = lead-letters t (x .0) lo c v (g .0)
   lead (span t w lo hi) v x g = lead-spanned t (x .0) (leb 1 lo && leb 1 w) (unitBits (2 ^ w) v) (λ q. span-some w lo v (g .0) q)
-  lead (anySpan t w) v x g = lead-spanned t (x .0) false (unitBits (2 ^ w) v) (λ q. differ q)
+  lead (anySpan t w) v x g = lead-spanned t (x .0) false (unitBits (2 ^ w) v) (λ q. absurd (false≢true q))
   lead (skipped m) v x g = absurd v
   lead (small m t) v x g = absurd v
   lead null v x g = refl
@@ -176,7 +175,7 @@ opens-yes F s [] R q h = absurd q
 opens-yes F s (i ∷ l) R q h = h
 
 pub solid-says : (F : List ℕ) (s : Bool) (l : List Item) → s ≡ true → Lead F s l → Says l
-solid-says F s [] q h = differ (sym h ∙ q)
+solid-says F s [] q h = absurd (false≢true (sym h ∙ q))
 solid-says F s (i ∷ l) q h = tt
 
 apart-inv : (t : ℕ) (F G : List ℕ) → apart F G ≡ true → member t G ≡ true → member t F ≡ false
@@ -188,7 +187,7 @@ apart-inv t (u ∷ F) G h k = go (eqb t u) refl (apart-inv t F G (both (not (mem
     go true q i =
         let e : t ≡ u = eqb-true t u q in
         let n = not-true (member u G) (both (not (member u G)) (apart F G) h .0) in
-        differ (sym n ∙ rw (← e) k)
+        absurd (false≢true (sym n ∙ rw (← e) k))
     go false q i = i
 
 pub opens-no : (F G : List ℕ) (R : List Item) → apart F G ≡ true → Follows G R → opens F R ≡ false

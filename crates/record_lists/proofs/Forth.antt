@@ -1,6 +1,6 @@
 -- A list from which a value is got is what that value shows, and the rest; and the value is in range.
 use mathlib.Core.Path.{_≡_, refl, sym, ap, _∙_}
-use mathlib.Core.Bool.{Bool, true, false, cond, not, _&&_}
+use mathlib.Core.Bool.{Bool, true, false, cond, not, _&&_, false≢true}
 use mathlib.Core.Option.{Option}
 use mathlib.Core.List.{List, [], _∷_, _++_, append-assoc}
 use Prim.Native.Nat.{ℕ, zero, suc, _+_, _^_, _≤_, _<_}
@@ -24,10 +24,6 @@ use Rattle.record_lists.specs.Parse.{opens, valueOf, bitsAt, sameNumbers
 pub nothing : {A B : Type 0} {v : A} {S : List Item} → no ≡ got v S → B
 nothing h = let z : _≡_ {A = ℕ} 0 1 = cc in absurd (omega arith)
 
--- two values of a truth
-pub differ : {A : Type 0} → false ≡ true → A
-differ h = let z : _≡_ {A = ℕ} 0 1 = cc in absurd (omega arith)
-
 onward : {R T : List Item} (x y S : List Item) → R ≡ x ++ T → T ≡ y ++ S → R ≡ (x ++ y) ++ S
 onward x y S p q = rw (p, q) (sym (append-assoc x y S))
 
@@ -43,8 +39,8 @@ Keeps {A} P h p = (R : List Item) (v : A) (S : List Item) → p R ≡ got v S �
 pub numbers-same : (xs ys : List ℕ) → sameNumbers xs ys ≡ true → xs ≡ ys
 unfolding sameNumbers
 numbers-same [] [] h = refl
-numbers-same [] (y ∷ ys) h = differ h
-numbers-same (x ∷ xs) [] h = differ h
+numbers-same [] (y ∷ ys) h = absurd (false≢true h)
+numbers-same (x ∷ xs) [] h = absurd (false≢true h)
 numbers-same (x ∷ xs) (y ∷ ys) h =
     let c = both (eqb x y) (sameNumbers xs ys) h in
     rw (eqb-true x y (c .0), numbers-same xs ys (c .1))
@@ -60,12 +56,12 @@ same-inv (bits t m xs) (bits u n ys) h =
     let c = both (eqb t u && eqb m n) (sameNumbers xs ys) h in
     let d = both (eqb t u) (eqb m n) (c .0) in
     rw (eqb-true t u (d .0), eqb-true m n (d .1), numbers-same xs ys (c .1))
-same-inv (plain t m v s) (bits u n ys) h = differ h
-same-inv (bits t m xs) (plain u n w r) h = differ h
+same-inv (plain t m v s) (bits u n ys) h = absurd (false≢true h)
+same-inv (bits t m xs) (plain u n w r) h = absurd (false≢true h)
 
 begins-inv : (i : Item) (R : List Item) → begins i R ≡ true → R ≡ i ∷ drop 1 R
 unfolding begins
-begins-inv i [] h = differ h
+begins-inv i [] h = absurd (false≢true h)
 begins-inv i (j ∷ R) h = rw (same-inv i j h)
 
 ---------------------------------------------------------------- steps

@@ -1,50 +1,39 @@
 -- Every message is clear, whatever tables are lent: a list shows one of its plain values at most.
 use mathlib.Core.Path.{_≡_, refl}
-use mathlib.Core.Bool.{Bool, true, _&&_}
+use mathlib.Core.Bool.{Bool, true}
 use mathlib.Core.Option.{none, some}
 use mathlib.Core.List.{List, [], _∷_}
 use Prim.Native.Nat.{ℕ, zero, suc}
 use native.Mathlib.Omega.{arith}
-use lib.ListN.{getD}
 use Rattle.x691.specs.Range.{member}
 use Rattle.atn.specs.Format.{Fmt}
 use Rattle.atn.specs.Messages.{noReader, arguments, argumentOf, elements, aircraftPdus, groundPdus, acse}
 use Rattle.atn.specs.Tags as tag
 use Rattle.atn.specs.Entries.{pdus, cmOf}
-use Rattle.atn.proofs.Inverse.{both}
+use Rattle.atn.proofs.Elements.{every, every-get}
 use Rattle.record_lists.specs.Clear.{clear, clearAlts, solid, firsts, apart, ahead}
 use Rattle.record_lists.specs.Kinds.{spanTag, kindOf}
 
 pub nothing : {A B : Type 0} {x : B} → none ≡ some x → A
 nothing h = let z : _≡_ {A = ℕ} 0 1 = cc in absurd (omega arith)
 
-clearEach : (ℕ → Bool) → List Fmt → List ℕ → Bool
-clearEach sp [] G = true
-clearEach sp (f ∷ fs) G = clear sp f G && clearEach sp fs G
-
-clear-at : (sp : ℕ → Bool) (fs : List Fmt) (G : List ℕ) (k : ℕ) → clearEach sp fs G ≡ true → clear sp (getD fs k noReader) G ≡ true
-unfolding clearEach clear
-clear-at sp [] G k h = refl
-clear-at sp (f ∷ fs) G zero h = both (clear sp f G) (clearEach sp fs G) h .0
-clear-at sp (f ∷ fs) G (suc k) h = clear-at sp fs G k (both (clear sp f G) (clearEach sp fs G) h .1)
-
-clear-argument : (sp : ℕ → Bool) (G : List ℕ) (k : ℕ) → clearEach sp arguments G ≡ true → clear sp (argumentOf k) G ≡ true
+clear-argument : (sp : ℕ → Bool) (G : List ℕ) (k : ℕ) → every (λ f. clear sp f G) arguments ≡ true → clear sp (argumentOf k) G ≡ true
 unfolding argumentOf clear
 clear-argument sp G zero h = refl
-clear-argument sp G (suc k) h = clear-at sp arguments G k h
+clear-argument sp G (suc k) h = every-get (λ f. clear sp f G) arguments noReader k h refl
 
-clear-elements : (sp : ℕ → Bool) (G table : List ℕ) → clearEach sp arguments G ≡ true → clearAlts sp (elements table) G ≡ true
+clear-elements : (sp : ℕ → Bool) (G table : List ℕ) → every (λ f. clear sp f G) arguments ≡ true → clearAlts sp (elements table) G ≡ true
 unfolding elements clear
 clear-elements sp G [] h = refl
 clear-elements sp G (k ∷ table) h = rw (clear-argument sp G k h) (clear-elements sp G table h)
 
 -- what the elements of a message may have behind them: another, a clearance, and the integrity check
-protected-arguments : clearEach spanTag arguments (tag.element-index ∷ tag.clearance ∷ tag.integrity-check ∷ []) ≡ true
-unfolding clearEach clear solid firsts apart ahead spanTag member
+protected-arguments : every (λ f. clear spanTag f (tag.element-index ∷ tag.clearance ∷ tag.integrity-check ∷ [])) arguments ≡ true
+unfolding every clear solid firsts apart ahead spanTag member
 protected-arguments = refl
 
-carried-arguments : clearEach spanTag arguments (tag.element-index ∷ tag.clearance ∷ []) ≡ true
-unfolding clearEach clear solid firsts apart ahead spanTag member
+carried-arguments : every (λ f. clear spanTag f (tag.element-index ∷ tag.clearance ∷ [])) arguments ≡ true
+unfolding every clear solid firsts apart ahead spanTag member
 carried-arguments = refl
 
 clear-aircraft : (down : List ℕ) → clear spanTag (aircraftPdus down) [] ≡ true

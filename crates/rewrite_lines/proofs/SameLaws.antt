@@ -26,9 +26,6 @@ one-more a b i h e = record { at = each }
 pub all-of : (a b : List ℕ) (n i : ℕ) → n ≤ i → SameBits a b i → SameBits a b n
 all-of a b n i l h = record { at = λ k m. h .at k (omega arith) }
 
-pub never : {A : Type 0} → false ≡ true → A
-never e = absurd (let z : _≡_ {A = ℕ} 0 1 = cc in omega arith)
-
 -- a bit read of each side
 pub bit-of-both : (a b : List ℕ) (i x y : ℕ) → x ≡ uint (bitOf a) i 1 → y ≡ uint (bitOf b) i 1 → x ≡ y → bitOf a i ≡ bitOf b i
 bit-of-both a b i x y p q e = let u = uint-one (bitOf a) i in let v = uint-one (bitOf b) i in cc

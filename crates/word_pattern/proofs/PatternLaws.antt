@@ -23,6 +23,3 @@ one-more w i h e k l m = go (eqb k i) refl
 
 pub all-of : {w : List ℕ} {n : ℕ} (i : ℕ) → length w ≤ i → Between w n i → Patterned w n
 all-of i l h = record { at = λ k a b. h k a (omega arith) }
-
-pub never : {A : Type 0} → false ≡ true → A
-never e = absurd (let z : _≡_ {A = ℕ} 0 1 = cc in omega arith)

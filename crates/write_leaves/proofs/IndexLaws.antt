@@ -1,6 +1,6 @@
 -- The index of an alternative, from the record in front.
 use mathlib.Core.Path.{_≡_, refl, sym, ap, _∙_}
-use mathlib.Core.Bool.{Bool, true, false, cond}
+use mathlib.Core.Bool.{Bool, true, false, cond, false≢true}
 use mathlib.Core.List.{List}
 use Prim.Native.Nat.{ℕ, suc, _+_, _-_, _^_, _≤_, _<_}
 use native.Mathlib.Omega.{arith}
@@ -12,7 +12,7 @@ use Rattle.x691.proofs.BitLaws.{length-bitsOf}
 use Rattle.x691.proofs.Widths.{unit-fits}
 use Rattle.record_lists.specs.Items.{Item, plain}
 use Rattle.record_lists.specs.Parse.{Got, no, got, begins, keep}
-use Rattle.record_lists.proofs.Forth.{differ, nothing}
+use Rattle.record_lists.proofs.Forth.{nothing}
 use Rattle.pens.specs.declared.Pen.{Pen}
 use Rattle.pens.specs.Rest.{items}
 use Rattle.pens.specs.Writes.{limit, Took, Writes, Inks}
@@ -52,7 +52,7 @@ module _ (b : ℕ → ℕ) (W : List ℕ) (m t e n : ℕ) where
 
   module _ (p : Pen) (X : List ℕ) (q : Indexed) (Y : List ℕ) where
     pub indexes-still : p .off ≡ true → q .p .off ≡ true → q .v < n → Indexes t e n b W m p X q Y
-    indexes-still h o v = record { writes = writes-still _ _ T m p X (q .p) Y h o; named = λ z l i S k. differ (sym z ∙ h); below = v }
+    indexes-still h o v = record { writes = writes-still _ _ T m p X (q .p) Y h o; named = λ z l i S k. absurd (false≢true (sym z ∙ h)); below = v }
 
     none : p .off ≡ false → indexOf t e n (T (p .next)) ≡ no → (q .p .off ≡ true) × (q .v ≡ 0) → 1 ≤ n → Indexes t e n b W m p X q Y
     none h k o s = record { writes = writes-none _ _ T m p X (q .p) Y k (o .0); named = λ z l i S j. nothing (sym k ∙ j); below = omega (arith, o .1, s) }

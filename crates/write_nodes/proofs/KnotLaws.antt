@@ -16,7 +16,7 @@ use Rattle.bit_writer.specs.Put.{setBits}
 use Rattle.record_lists.specs.Clear.{firsts}
 use Rattle.record_lists.specs.Kinds.{spanTag}
 use Rattle.record_lists.specs.Parse.{sameNumbers, opens}
-use Rattle.record_lists.proofs.Forth.{differ, numbers-same}
+use Rattle.record_lists.proofs.Forth.{numbers-same}
 use Rattle.node_tables.specs.Nodes.{membersFrom}
 use Rattle.node_tables.specs.Sure.{sureMember}
 use Rattle.pens.specs.declared.Pen.{Pen}

@@ -1,6 +1,6 @@
 -- A string written: its size, and the bits that its span points to.
 use mathlib.Core.Path.{_≡_, refl, sym, ap, _∙_}
-use mathlib.Core.Bool.{Bool, true, false}
+use mathlib.Core.Bool.{Bool, true, false, false≢true}
 use mathlib.Core.List.{List, [], _∷_, _++_, append-nil}
 use Prim.Native.Nat.{ℕ, _+_, _*_, _/_, _^_, _≤_, _<_}
 use native.Mathlib.Omega.{arith}
@@ -14,7 +14,6 @@ use Rattle.bit_writer.proofs.Stretches.{stretch-length}
 use Rattle.record_lists.specs.Items.{Item, bits}
 use Rattle.record_lists.specs.Kinds.{spanTag}
 use Rattle.record_lists.specs.Parse.{bitsAt, unitsOf, no, got}
-use Rattle.record_lists.proofs.Forth.{differ}
 use Rattle.pens.specs.declared.Pen.{Pen}
 use Rattle.pens.specs.Rest.{items}
 use Rattle.pens.specs.Writes.{limit, Writes, Inks}
@@ -37,13 +36,13 @@ stretch-near b p X from n q Y x y z u = record { next-stays = x; off-stays = y; 
 
 module _ (b : ℕ → ℕ) (W : List ℕ) (e w n v : ℕ) (p : Pen) (X : List ℕ) where
   pub sends-not : (q : Pen) (Y : List ℕ) → whole W (p .next) e w ≡ false → q .off ≡ true → Sends b W e w n v p X q Y
-  sends-not q Y h o = record { refuses = λ _. o; on = λ z. differ (sym h ∙ z); takes = λ z. differ (sym h ∙ z); puts = λ z. differ (sym h ∙ z) }
+  sends-not q Y h o = record { refuses = λ _. o; on = λ z. absurd (false≢true (sym h ∙ z)); takes = λ z. absurd (false≢true (sym h ∙ z)); puts = λ z. absurd (false≢true (sym h ∙ z)) }
 
   pub sends-both : (q : Pen) (Y : List ℕ) (r : Pen) (Z : List ℕ) (s : Pen) → whole W (p .next) e w ≡ true → Inks p X n v q Y → InksStretch b q Y (first W p) (size W p) r Z
       → s .off ≡ false → s .next ≡ p .next + 1 → s .at ≡ r .at → Sends b W e w n v p X s Z
   sends-both q Y r Z s h x y o k a =
       record {
-        refuses = λ z. differ (sym z ∙ h);
+        refuses = λ z. absurd (false≢true (sym z ∙ h));
         on = λ _. o;
         takes = λ _. k;
         puts = λ _ l.
@@ -75,7 +74,7 @@ module _ (b : ℕ → ℕ) (bit : (i : ℕ) → b i < 2) (W : List ℕ) (m t e w
   unfolding unitBits joined
   string-none {n} {v} h z f s x =
       record {
-        still = λ o. differ (sym h ∙ o);
+        still = λ o. absurd (false≢true (sym h ∙ o));
         goes = λ _ l. rw (string-empty fits t e w (T (p .next)) (sym z) f) (
             record {
               on = x .off-stays ∙ h;

@@ -16,7 +16,6 @@ use Rattle.atn.specs.Reading.{Ctx}
 use Rattle.atn.proofs.Inverse.{both}
 use Rattle.record_lists.specs.Items.{Item, plain}
 use Rattle.record_lists.specs.Kinds.{spanTag}
-use Rattle.record_lists.proofs.Forth.{differ}
 use Rattle.record_lists.specs.Parse.{Got, no, got, peel, parse}
 use Rattle.node_tables.specs.declared.Node.{Node}
 use Rattle.node_tables.specs.Nodes.{formatOf, alternativesFrom, lentAlternatives, lentTable}

@@ -1,6 +1,6 @@
 -- A member that is met, by its kind.
 use mathlib.Core.Path.{_≡_, refl, sym, _∙_}
-use mathlib.Core.Bool.{Bool, true, false, not, _&&_}
+use mathlib.Core.Bool.{Bool, true, false, not, _&&_, false≢true}
 use mathlib.Core.List.{List, [], _∷_}
 use Prim.Native.Nat.{ℕ, zero, suc, _+_, _≤_, _<_}
 use native.Mathlib.Omega.{arith}
@@ -16,7 +16,7 @@ use Rattle.record_lists.specs.Items.{Item, plain}
 use Rattle.record_lists.specs.Kinds.{spanTag}
 use Rattle.record_lists.specs.Clear.{firsts}
 use Rattle.record_lists.specs.Parse.{opens, begins, sameNumbers}
-use Rattle.record_lists.proofs.Forth.{differ, numbers-same}
+use Rattle.record_lists.proofs.Forth.{numbers-same}
 use Rattle.node_tables.specs.declared.Node.{Node}
 use Rattle.node_tables.specs.Nodes.{memberOf}
 use Rattle.node_tables.specs.Sure.{sureMember}
@@ -80,11 +80,11 @@ module _ (F : ℕ → Fmt) (S : ℕ → Bool) (fs : Flds) (n : Node) (x y : ℕ)
 
   there : (k fl : ℕ) → S k ≡ true → ((q r : Pen) (U Z : List ℕ) → Part (F k) (x, y) s W m p Y q U → Members fl fs (x, y) s W m q U r Z → Members flag (memberOf F fs (n .kind) (n .a) (n .b) (n .c) (n .d)) (x, y) s W m p X r Z)
       → Meets F S fs n x y s W m flag p X (record { there = true; k = k; flag = fl; p = p }) Y
-  there k fl h g = record { with = λ _. g; without = λ z. differ (sym z); sure = λ _. h }
+  there k fl h g = record { with = λ _. g; without = λ z. absurd (false≢true (sym z)); sure = λ _. h }
 
   not-there : (t : Met) (q : Pen) → t ≡ record { there = false; k = 0; flag = flag + 1; p = q } → ((r : Pen) (Z : List ℕ) → Members (flag + 1) fs (x, y) s W m q Y r Z → Members flag (memberOf F fs (n .kind) (n .a) (n .b) (n .c) (n .d)) (x, y) s W m p X r Z)
       → Meets F S fs n x y s W m flag p X t Y
-  not-there t q e g = rw e (record { with = λ z. differ z; without = λ _. g; sure = λ z. differ z })
+  not-there t q e g = rw e (record { with = λ z. absurd (false≢true z); without = λ _. g; sure = λ z. absurd (false≢true z) })
 
   -- one that may be absent
   pub meets-tagged : n .kind ≡ 1 → sureMember F S (n .kind) (n .a) (n .b) (n .c) (n .d) ≡ true → opens (n .b ∷ []) (items s W m (p .next)) ≡ true → (flag ≤ limit → Y ≡ setBits X flag (bitsOf 1 1))

@@ -1,13 +1,8 @@
-use mathlib.Core.Path.{_≡_}
-use mathlib.Core.Bool.{Bool, true, false}
-use Prim.Native.Nat.{ℕ}
-use native.Mathlib.Omega.{arith}
+use mathlib.Core.Path.{sym, _∙_}
+use mathlib.Core.Bool.{true≢false}
 use borrow.Author.Needs.{needs}
 use Rattle.entry_names.proofs.named.Statement.{statement}
 use Rattle.entry_names.proofs.named.Tie as tie
-
-differ : {t : Bool} → t ≡ true → t ≡ false → ⊥
-differ p q = let z : _≡_ {A = ℕ} 0 1 = cc in omega arith
 
 returns : tie.Need-returns
 returns c = c .before .same .ensures .0 (c .if1 .taken)
@@ -22,7 +17,7 @@ returns-4 : tie.Need-returns-4
 returns-4 c = c .before .same4 .ensures .0 (c .if4 .taken)
 
 returns-5 : tie.Need-returns-5
-returns-5 c = (λ e. differ (c .before .before .before .before .before .before .before .before .before .before .same .ensures .1 e) (c .before .before .before .before .before .before .before .before .before .if1 .left), λ e. differ (c .before .before .before .before .before .before .before .same2 .ensures .1 e) (c .before .before .before .before .before .before .if2 .left), λ e. differ (c .before .before .before .before .same3 .ensures .1 e) (c .before .before .before .if3 .left), λ e. differ (c .before .same4 .ensures .1 e) (c .if4 .left))
+returns-5 c = (λ e. true≢false (sym (c .before .before .before .before .before .before .before .before .before .before .same .ensures .1 e) ∙ c .before .before .before .before .before .before .before .before .before .if1 .left), λ e. true≢false (sym (c .before .before .before .before .before .before .before .same2 .ensures .1 e) ∙ c .before .before .before .before .before .before .if2 .left), λ e. true≢false (sym (c .before .before .before .before .same3 .ensures .1 e) ∙ c .before .before .before .if3 .left), λ e. true≢false (sym (c .before .same4 .ensures .1 e) ∙ c .if4 .left))
 
 pub named-spec : {M : Type 1} → statement M
 named-spec =

@@ -1,7 +1,7 @@
 use mathlib.Core.Path.{sym}
+use mathlib.Core.Bool.{false≢true}
 use borrow.Author.Needs.{needs}
 use Rattle.record_lists.specs.Items.{plain}
-use Rattle.record_lists.proofs.Forth.{differ}
 use Rattle.pens.proofs.RestLaws.{record-last, record-value, record-element, record-tag, record-end}
 use Rattle.pens.proofs.is_record.Statement.{statement}
 use Rattle.pens.proofs.is_record.Tie as tie
@@ -48,16 +48,16 @@ returns : tie.Need-returns
 returns c = (λ b. record-last b (c .before .before .before .before .before .before .before .before .args .words .now) (c .before .before .before .before .before .before .before .before .args .m) (c .before .before .before .before .before .before .before .before .args .i) (c .before .before .before .before .before .before .before .before .args .tag) (c .before .before .before .before .before .before .before .before .args .element) (c .before .before .before .before .before .before .before .before .args .value) (c .before .before .before .before .before .before .before .before .args .second) ((c .before .before .before .before .before .before .before .before .pre) .2) (c .before .before .before .before .before .before .before .if1 .taken) (c .before .before .before .before .before .if2 .taken) (c .before .before .before .if3 .taken) (c .before .if4 .taken), λ _. (c .before .before .before .before .before .before .before .if1 .taken))
 
 returns-2 : tie.Need-returns-2
-returns-2 c = (λ b. sym (record-value b (c .before .before .before .before .before .before .before .args .words .now) (c .before .before .before .before .before .before .before .args .m) (c .before .before .before .before .before .before .before .args .i) (c .before .before .before .before .before .before .before .args .tag) (c .before .before .before .before .before .before .before .args .element) (c .before .before .before .before .before .before .before .args .value) (c .before .before .before .before .before .before .before .args .second) ((c .before .before .before .before .before .before .before .pre) .2) (c .before .before .before .before .before .before .if1 .taken) (c .if4 .left)), λ h. differ h)
+returns-2 c = (λ b. sym (record-value b (c .before .before .before .before .before .before .before .args .words .now) (c .before .before .before .before .before .before .before .args .m) (c .before .before .before .before .before .before .before .args .i) (c .before .before .before .before .before .before .before .args .tag) (c .before .before .before .before .before .before .before .args .element) (c .before .before .before .before .before .before .before .args .value) (c .before .before .before .before .before .before .before .args .second) ((c .before .before .before .before .before .before .before .pre) .2) (c .before .before .before .before .before .before .if1 .taken) (c .if4 .left)), λ h. absurd (false≢true h))
 
 returns-3 : tie.Need-returns-3
-returns-3 c = (λ b. sym (record-element b (c .before .before .before .before .before .args .words .now) (c .before .before .before .before .before .args .m) (c .before .before .before .before .before .args .i) (c .before .before .before .before .before .args .tag) (c .before .before .before .before .before .args .element) (c .before .before .before .before .before .args .value) (c .before .before .before .before .before .args .second) ((c .before .before .before .before .before .pre) .2) (c .before .before .before .before .if1 .taken) (c .if3 .left)), λ h. differ h)
+returns-3 c = (λ b. sym (record-element b (c .before .before .before .before .before .args .words .now) (c .before .before .before .before .before .args .m) (c .before .before .before .before .before .args .i) (c .before .before .before .before .before .args .tag) (c .before .before .before .before .before .args .element) (c .before .before .before .before .before .args .value) (c .before .before .before .before .before .args .second) ((c .before .before .before .before .before .pre) .2) (c .before .before .before .before .if1 .taken) (c .if3 .left)), λ h. absurd (false≢true h))
 
 returns-4 : tie.Need-returns-4
-returns-4 c = (λ b. sym (record-tag b (c .before .before .before .args .words .now) (c .before .before .before .args .m) (c .before .before .before .args .i) (c .before .before .before .args .tag) (c .before .before .before .args .element) (c .before .before .before .args .value) (c .before .before .before .args .second) ((c .before .before .before .pre) .2) (c .before .before .if1 .taken) (c .if2 .left)), λ h. differ h)
+returns-4 c = (λ b. sym (record-tag b (c .before .before .before .args .words .now) (c .before .before .before .args .m) (c .before .before .before .args .i) (c .before .before .before .args .tag) (c .before .before .before .args .element) (c .before .before .before .args .value) (c .before .before .before .args .second) ((c .before .before .before .pre) .2) (c .before .before .if1 .taken) (c .if2 .left)), λ h. absurd (false≢true h))
 
 returns-5 : tie.Need-returns-5
-returns-5 c = (λ b. sym (record-end b (c .before .args .words .now) (c .before .args .m) (c .before .args .i) (plain (c .before .args .tag) (c .before .args .element) (c .before .args .value) (c .before .args .second)) (c .if1 .left)), λ h. differ h)
+returns-5 c = (λ b. sym (record-end b (c .before .args .words .now) (c .before .args .m) (c .before .args .i) (plain (c .before .args .tag) (c .before .args .element) (c .before .args .value) (c .before .args .second)) (c .if1 .left)), λ h. absurd (false≢true h))
 
 pub is-record-spec : {M : Type 1} → statement M
 is-record-spec =

@@ -1,11 +1,12 @@
 -- The invariant of the loop: the bits before i are the same. The measure is the number of bits that are left.
 use mathlib.Core.Path.{refl}
+use mathlib.Core.Bool.{false≢true}
 use Prim.Native.Nat.{_-_, _*_, _≤_}
 use native.Mathlib.Omega.{arith}
 use lib.ListN.{length}
 use borrow.Author.Needs.{needs}
 use Rattle.rewrite_lines.specs.Same.{SameBits}
-use Rattle.rewrite_lines.proofs.SameLaws.{none-yet, one-more, all-of, never, bit-of-both, both-of-bit}
+use Rattle.rewrite_lines.proofs.SameLaws.{none-yet, one-more, all-of, bit-of-both, both-of-bit}
 use Rattle.rewrite_lines.proofs.same.same_bits.Statement.{statement}
 use Rattle.rewrite_lines.proofs.same.same_bits.Tie as tie
 
@@ -19,7 +20,7 @@ loop-holds : tie.Need-loop-holds Inv-loop μ-loop
 loop-holds c = (omega arith, search needs, search needs, none-yet _ _)
 
 returns : tie.Need-returns Inv-loop μ-loop
-returns c = (λ e. never e, λ h. absurd (c .if1 .taken (both-of-bit _ _ (c .before .before .before .before .loop .i) _ _ (c .before .before .uint .ensures .0 (omega (arith, c .before .before .before .before .loop .inv .1, c .before .before .before .loop-test .taken))) (c .before .uint2 .ensures .0 (omega (arith, c .before .before .before .before .loop .inv .2, c .before .before .before .loop-test .taken))) (h .at (c .before .before .before .before .loop .i) (c .before .before .before .loop-test .taken)))))
+returns c = (λ e. absurd (false≢true e), λ h. absurd (c .if1 .taken (both-of-bit _ _ (c .before .before .before .before .loop .i) _ _ (c .before .before .uint .ensures .0 (omega (arith, c .before .before .before .before .loop .inv .1, c .before .before .before .loop-test .taken))) (c .before .uint2 .ensures .0 (omega (arith, c .before .before .before .before .loop .inv .2, c .before .before .before .loop-test .taken))) (h .at (c .before .before .before .before .loop .i) (c .before .before .before .loop-test .taken)))))
 
 loop-less : tie.Need-loop-less Inv-loop μ-loop
 loop-less c = omega (arith, c .before .before .before .loop-test .taken)
