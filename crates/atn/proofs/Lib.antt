@@ -1,4 +1,5 @@
 pub mod Steps
+pub mod Alternatives
 pub mod Then
 pub mod Texts
 pub mod Complete

@@ -1,4 +1,5 @@
 pub mod Format
+pub mod Alternatives
 pub mod Reading
 pub mod Told
 pub mod Places

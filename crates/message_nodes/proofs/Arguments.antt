@@ -9,9 +9,10 @@ use lib.ListN.{length, List·getD-eq-default}
 use lib.Dec.{leb}
 use borrow.Author.Tests.{leb-true, leb-false}
 use Rattle.atn.specs.Format.{Fmt, Alts, none-left, _∥_}
+use Rattle.atn.specs.Alternatives.{alternativesFrom}
 use Rattle.atn.specs.Reading.{mark}
 use Rattle.atn.specs.Messages.{noReader, argument, arguments, argumentOf, elements}
-use Rattle.node_tables.specs.Nodes.{nodeWord, memberOf, membersFrom, alternativesFrom, lentAlternatives, lettersBy, formatOf, formatAt}
+use Rattle.node_tables.specs.Nodes.{nodeWord, memberOf, membersFrom, lentAlternatives, lettersBy, formatOf, formatAt}
 use Rattle.message_nodes.specs.Table.{table, argumentsRoot}
 
 -- n arguments, from byte j on

@@ -6,8 +6,9 @@ use Prim.Native.Nat.{ℕ, suc}
 use Rattle.atn.specs.Tags as tag
 use Rattle.atn.specs.Format.{Fmt, num, element, seq, choice, many, lax}
 use Rattle.atn.specs.Format.{end, _⨾_, _⨾?_, orNote, Alts}
+use Rattle.atn.specs.Alternatives.{alternativesFrom}
 use Rattle.atn.specs.Messages.{dateTimeGroup, constrainedData, messageData, atcMessage}
-use Rattle.node_tables.specs.Nodes.{nodeWord, memberOf, membersFrom, alternativesFrom, lentTable, lettersBy, formatOf, formatAt}
+use Rattle.node_tables.specs.Nodes.{nodeWord, memberOf, membersFrom, lentTable, lettersBy, formatOf, formatAt}
 use Rattle.message_nodes.specs.Table.{table, downDataRoot, downCarriedRoot, downMessageRoot, upDataRoot, upCarriedRoot, upMessageRoot}
 use Rattle.message_nodes.proofs.Arguments.{Deep, lent-elements}
 

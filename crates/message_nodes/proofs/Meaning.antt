@@ -7,11 +7,12 @@ use Prim.Native.Nat.{ℕ, zero, suc}
 use Rattle.atn.specs.Tags as tag
 use Rattle.atn.specs.Format.{Fmt, num, span, anySpan, skipped, noted, ext, seq, choice, inner, soft, lax}
 use Rattle.atn.specs.Format.{end, _⨾_, _⨾?_, orNote, none-left, _∥_}
+use Rattle.atn.specs.Alternatives.{alternativesFrom}
 use Rattle.atn.specs.Messages.{ia5, noReader, extReason, dateTimeGroup, messageData, atcMessage, extensionAlternative, aircraftPdus, groundPdus, cmGround, cmAircraft, acse}
 use Rattle.atn.specs.Entries.{pdus, cmOf}
 use Rattle.record_lists.specs.Kinds.{kindOf}
 use Rattle.record_lists.proofs.Messages.{some-is, nothing}
-use Rattle.node_tables.specs.Nodes.{nodeWord, memberOf, membersFrom, alternativesFrom, lettersBy, formatOf, formatAt}
+use Rattle.node_tables.specs.Nodes.{nodeWord, memberOf, membersFrom, lettersBy, formatOf, formatAt}
 use Rattle.message_nodes.specs.Table.{table, depth, downMessageRoot, downCarriedRoot, upCarriedRoot, downlinkRoot, uplinkRoot, cmAircraftRoot, cmGroundRoot, acseRoot}
 use Rattle.message_nodes.specs.Roots.{byDirection, rootOf}
 use Rattle.message_nodes.proofs.Elements.{Deeper, down-carried, up-carried, down-message, up-message}

@@ -9,13 +9,14 @@ use lib.Dec.{leb}
 use borrow.Author.Tests.{le-leb}
 use Rattle.x691.specs.Range.{member}
 use Rattle.atn.specs.Format.{Fmt, lax}
+use Rattle.atn.specs.Alternatives.{alternativesFrom}
 use Rattle.atn.specs.Messages.{messageData, atcMessage}
 use Rattle.atn.specs.Reading.{flags}
 use Rattle.record_lists.specs.Clear.{solid, firsts}
 use Rattle.record_lists.specs.Kinds.{spanTag}
 use Rattle.record_lists.specs.Parse.{sameNumbers}
 use Rattle.record_lists.specs.Most.{most}
-use Rattle.node_tables.specs.Nodes.{nodeWord, memberOf, membersFrom, alternativesFrom, lettersBy, formatOf, formatAt}
+use Rattle.node_tables.specs.Nodes.{nodeWord, memberOf, membersFrom, lettersBy, formatOf, formatAt}
 use Rattle.node_tables.specs.Sure.{sureMember, sureMembers, sureEach, sureText, sureChannel, sureLetters, sureUnit, sureSize, sureOf, sureAt}
 use Rattle.message_nodes.specs.Table.{table, depth, downMessageRoot, downCarriedRoot, upMessageRoot, upCarriedRoot, downlinkRoot, uplinkRoot, cmAircraftRoot, cmGroundRoot, acseRoot}
 use Rattle.message_nodes.specs.Roots.{byDirection, rootOf}

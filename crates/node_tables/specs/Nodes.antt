@@ -6,6 +6,7 @@ use lib.ListN.{getD}
 use lib.Dec.{leb, ltb, eqb}
 use Rattle.atn.specs.Format.{Fmt, num, listed, name, text, span, anySpan, skipped, small, null, noted, placed, marked, refuse, element, ext, seq, loose, choice, many, inner, soft, lax, bad, lack}
 use Rattle.atn.specs.Format.{Flds, end, _⨾_, _⨾?_, orNote, unread, Alts, none-left, _∥_, Letters, first, numeric}
+use Rattle.atn.specs.Alternatives.{alternativesFrom}
 use Rattle.atn.specs.Messages.{noReader, argument}
 
 -- number j of node k
@@ -20,11 +21,6 @@ memberOf F fs kind a b c d = getD ((F a ⨾ fs) ∷ (F a ⨾? fs) ∷ (F a ⨾? 
 unfoldable pub membersFrom : (ℕ → Fmt) → List ℕ → ℕ → ℕ → Flds
 membersFrom F N k zero = end
 membersFrom F N k (suc n) = memberOf F (membersFrom F N (suc k) n) (nodeWord N k 0) (nodeWord N k 1) (nodeWord N k 2) (nodeWord N k 3) (nodeWord N k 4)
-
--- n alternatives, from node k on
-unfoldable pub alternativesFrom : (ℕ → Fmt) → ℕ → ℕ → Alts
-alternativesFrom F k zero = none-left
-alternativesFrom F k (suc n) = F k ∥ alternativesFrom F (suc k) n
 
 -- the alternatives that a lent table names: byte i is node k + i, up to 16
 unfoldable pub lentAlternatives : (ℕ → Fmt) → ℕ → List ℕ → Alts

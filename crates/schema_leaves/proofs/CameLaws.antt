@@ -5,7 +5,7 @@ use Prim.Native.Nat.{ℕ, _+_, _*_, _/_, _%_, _^_, _≤_, _<_, _-_}
 use native.Mathlib.Omega.{arith}
 use lib.ListN.{length, length-append}
 use Rattle.x691.specs.Bits.{bitOf, uint}
-use Rattle.atn.specs.Format.{Why, out, bad, lack, quit}
+use Rattle.atn.specs.Format.{Why, out}
 use Rattle.atn.specs.Reading.{Rec, rec, Ans, ok, past, stop, or, glue, then, pull}
 use Rattle.atn.proofs.Marks.{or-assoc, or-nil}
 use Rattle.atn.proofs.Steps.{pull-go, pull-no}

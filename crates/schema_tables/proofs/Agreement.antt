@@ -11,13 +11,14 @@ use Rattle.x691.specs.Bits.{bitOf, uint}
 use Rattle.x691.specs.Types.{extent}
 use Rattle.x691.specs.Encoding.{width, widthIn, highest, count}
 use Rattle.atn.specs.Format.{Fmt, Alts, num, refuse, bad, seq, many, choice, end, _⨾_, none-left, _∥_}
+use Rattle.atn.specs.Alternatives.{alternativesFrom}
 use Rattle.atn.specs.Reading.{Ctx, Ans, mark, read, readChoice, flags, unreadMarks, sized, pull, fetch, times, over, unless, then, ok, stop, rec}
 use Rattle.atn.specs.Messages.{speedType, code, frequency, numericString, arguments, noReader}
 use Rattle.atn.specs.Entries.{Reply, reply, readFrame, Outcome, enter, decide, test, Test, frame-fits}
 use Rattle.atn.specs.Tags as tag
 use Rattle.atn.specs.Demands.{passes}
 use Rattle.atn.proofs.Inverse.{both}
-use Rattle.schema_tables.specs.Nodes.{nodes, nodeWord, memberOf, membersFrom, alternativesFrom, formatOf, formatAt, meaning}
+use Rattle.schema_tables.specs.Nodes.{nodes, nodeWord, memberOf, membersFrom, formatOf, formatAt, meaning}
 use Rattle.schema_tables.specs.Tests.{below, each, raised, range-fits, kind-fits, node-fits, kinds-fit, firstOf, countOf, firstAt, countAt, link-fits, links-fit, within, depth-fits}
 use Rattle.schema_tables.specs.Entry.{table-tests, capped, parse-by-table}
 use Rattle.schema_tables.specs.Arguments.{speedTypesNodes, codeNodes, frequencyNodes, argumentTables}

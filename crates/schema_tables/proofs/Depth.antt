@@ -8,10 +8,11 @@ use native.Mathlib.Omega.{arith}
 use lib.Dec.{eqb}
 use borrow.Author.Tests.{eqb-true}
 use Rattle.atn.specs.Format.{Fmt, Flds, Alts, seq, choice, ext, noted, end, _⨾_, _⨾?_, unread, _∥_}
+use Rattle.atn.specs.Alternatives.{alternativesFrom}
 use Rattle.atn.specs.Messages.{noReader, extended}
 use Rattle.atn.specs.Demands.{passes}
 use Rattle.atn.proofs.Inverse.{both}
-use Rattle.schema_tables.specs.Nodes.{nodeWord, memberOf, membersFrom, alternativesFrom, formatOf, formatAt, meaning}
+use Rattle.schema_tables.specs.Nodes.{nodeWord, memberOf, membersFrom, formatOf, formatAt, meaning}
 use Rattle.schema_tables.specs.Tests.{each, kinds-fit, links-fit, firstOf, countOf, firstAt, countAt, within, depth-fits}
 use Rattle.schema_tables.proofs.Capped.{Kept}
 

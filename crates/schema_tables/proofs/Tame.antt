@@ -1,14 +1,14 @@
 -- A table's meaning has no part that is tolerant, and none that is refused as if it had run out.
 use mathlib.Core.Path.{_≡_, refl}
-use mathlib.Core.Bool.{Bool, true, false, cond, _&&_}
+use mathlib.Core.Bool.{Bool, true, false, cond}
 use mathlib.Core.List.{List}
 use Prim.Native.Nat.{ℕ, zero, suc}
 use lib.Dec.{eqb}
 use Rattle.atn.specs.Format.{Fmt, Flds, _⨾_, _⨾?_, unread}
-use Rattle.atn.specs.Messages.{noReader, extended}
+use Rattle.atn.specs.Alternatives.{alternativesFrom}
 use Rattle.atn.proofs.Tame.{Kind, keepsStop, tame, tameFields, tameChoice}
 use Rattle.atn.proofs.Lacked.{frank}
-use Rattle.schema_tables.specs.Nodes.{nodeWord, memberOf, membersFrom, alternativesFrom, formatOf, formatAt, meaning}
+use Rattle.schema_tables.specs.Nodes.{nodeWord, memberOf, membersFrom, formatOf, formatAt, meaning}
 
 module _ (K : Kind) (N : List ℕ) where
   module _ (F : ℕ → Fmt) (h : (j : ℕ) → tame K (F j) ≡ true) where

@@ -18,7 +18,8 @@ use Prim.Native.Nat.{ℕ, zero, suc, _+_, _*_, _/_}
 use lib.ListN.{length, getD}
 use lib.Dec.{ltb, eqb}
 use Rattle.atn.specs.Format.{Fmt, num, name, text, span, null, noted, refuse, ext, seq, choice, bad}
-use Rattle.atn.specs.Format.{Flds, end, _⨾_, _⨾?_, unread, Alts, none-left, _∥_}
+use Rattle.atn.specs.Format.{Flds, end, _⨾_, _⨾?_, unread}
+use Rattle.atn.specs.Alternatives.{alternativesFrom}
 use Rattle.atn.specs.Messages.{noReader, unlisted, ia5, extended}
 
 -- the nodes of a table
@@ -38,12 +39,7 @@ unfoldable pub membersFrom : (ℕ → Fmt) → List ℕ → ℕ → ℕ → Flds
 membersFrom F N k zero = end
 membersFrom F N k (suc n) = memberOf F (membersFrom F N (suc k) n) (nodeWord N k 0) k (nodeWord N k 1)
 
--- n alternatives, from node k on: "a choice whose alternatives may be unread and then fail"
-unfoldable pub alternativesFrom : (ℕ → Fmt) → ℕ → ℕ → Alts
-alternativesFrom F k zero = none-left
-alternativesFrom F k (suc n) = F k ∥ alternativesFrom F (suc k) n
-
--- node k by its kind and numbers; a member that may be absent and stands elsewhere is a sequence of itself
+-- node k by its kind and numbers: "a choice whose alternatives may be unread and then fail"; a member that may be absent and stands elsewhere is a sequence of itself
 unfoldable pub formatOf : (ℕ → Fmt) → List ℕ → ℕ → ℕ → ℕ → ℕ → ℕ → Fmt
 formatOf F N k kind a b c =
     getD

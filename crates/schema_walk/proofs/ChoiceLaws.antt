@@ -9,14 +9,15 @@ use borrow.Author.Tests.{eq-eqb}
 use Rattle.x691.specs.Bits.{bitOf, uint}
 use Rattle.x691.specs.Encoding.{width, highest, count}
 use Rattle.atn.specs.Format.{Fmt, Alts, choice, ext, noted, bad, alternativesOf}
+use Rattle.atn.specs.Alternatives.{alternativesFrom}
 use Rattle.atn.specs.Reading.{Ctx, Ans, Rec, rec, ok, stop, or, mark, then, glue, fork, read, readChoice}
 use Rattle.atn.specs.Messages.{extended}
 use Rattle.atn.proofs.Marks.{or-nil}
+use Rattle.atn.proofs.Alternatives.{count-from}
 use Rattle.cursor.specs.declared.place.Cursor.{Cursor}
 use Rattle.cursor.specs.declared.place.Got.{Got}
 use Rattle.cursor.specs.Place.{number, put, stopped, marked, Pulls}
 use Rattle.schema_tables.specs.Entry.{top}
-use Rattle.schema_tables.specs.Nodes.{alternativesFrom}
 use Rattle.capped_records.specs.Place.{Put}
 use Rattle.capped_records.proofs.PlaceLaws.{one-length, counted-top}
 use Rattle.schema_leaves.specs.declared.Step.{Step}
@@ -27,14 +28,9 @@ use Rattle.schema_leaves.proofs.NumberLaws.{goes-marked, goes-unmarked}
 ---------------------------------------------------------------- the alternatives
 
 module _ (F : ℕ → Fmt) where
-  alternatives-count : (k n : ℕ) → count (alternativesOf (alternativesFrom F k n)) ≡ n
-  unfolding alternativesFrom count
-  alternatives-count k zero = refl
-  alternatives-count k (suc n) = ap suc (alternatives-count (suc k) n)
-
   alternatives-width : (k n : ℕ) → width (highest (alternativesOf (alternativesFrom F k n))) ≡ width (n - 1)
   unfolding highest
-  alternatives-width k n = rw (alternatives-count k n)
+  alternatives-width k n = rw (count-from F k n)
 
   pick-in : (x : Ctx) (b : ℕ → ℕ) (e p k n i : ℕ) → i < n → readChoice (alternativesFrom F k n) i x b e p ≡ read (F (k + i)) x b e p
   unfolding alternativesFrom read

@@ -10,10 +10,11 @@ use lib.Dec.{leb, ltb, eqb}
 use borrow.Author.Tests.{eqb-true, eqb-false, leb-true, ltb-true, ltb-false}
 use Rattle.x691.specs.Bits.{bitOf}
 use Rattle.atn.specs.Format.{Fmt, seq, choice, ext, noted, refuse, bad}
+use Rattle.atn.specs.Alternatives.{alternativesFrom}
 use Rattle.atn.specs.Reading.{Ans, stop, mark, read}
 use Rattle.atn.specs.Messages.{noReader, unlisted, extended}
 use Rattle.atn.proofs.Inverse.{both}
-use Rattle.schema_tables.specs.Nodes.{nodes, nodeWord, membersFrom, alternativesFrom, formatOf, formatAt}
+use Rattle.schema_tables.specs.Nodes.{nodes, nodeWord, membersFrom, formatOf, formatAt}
 use Rattle.schema_tables.specs.Tests.{below, raised, range-fits, kind-fits, node-fits, kinds-fit, firstOf, countOf, firstAt, countAt, links-fit}
 use Rattle.schema_nodes.specs.declared.node.Node.{Node}
 use Rattle.schema_nodes.specs.Row.{IsNode}

@@ -11,14 +11,16 @@ use borrow.Author.Tests.{leb-true, ltb-true, le-leb, lt-leb, not-true, eqb-true,
 use Rattle.x691.specs.Bits.{bitsOf}
 use Rattle.x691.specs.Encoding.{width, highest, count, encode}
 use Rattle.atn.specs.Format.{Fmt, noted, placed, element, ext, choice, soft, lax, Alts, typeOf, alternativesOf}
+use Rattle.atn.specs.Alternatives.{alternativesFrom}
 use Rattle.atn.specs.Messages.{noReader, argument}
 use Rattle.atn.specs.Reading.{Ctx}
 use Rattle.atn.proofs.Inverse.{both}
+use Rattle.atn.proofs.Alternatives.{count-from}
 use Rattle.record_lists.specs.Items.{Item, plain}
 use Rattle.record_lists.specs.Kinds.{spanTag}
 use Rattle.record_lists.specs.Parse.{Got, no, got, peel, parse}
 use Rattle.node_tables.specs.declared.Node.{Node}
-use Rattle.node_tables.specs.Nodes.{formatOf, alternativesFrom, lentAlternatives, lentTable}
+use Rattle.node_tables.specs.Nodes.{formatOf, lentAlternatives, lentTable}
 use Rattle.node_tables.specs.Sure.{sureOf, sureEach}
 use Rattle.pens.specs.declared.Pen.{Pen}
 use Rattle.pens.specs.Rest.{items}
@@ -30,7 +32,7 @@ use Rattle.write_leaves.specs.declared.index.Indexed.{Indexed}
 use Rattle.write_leaves.proofs.LeafLaws.{part-as}
 use Rattle.write_steps.specs.declared.lead.Led.{Led}
 use Rattle.write_steps.specs.Steps.{Above, Leads, LeadsLent}
-use Rattle.write_steps.proofs.PickLaws.{nth, pick-wrote, choice-index, count-from, nth-from, count-lent, nth-lent}
+use Rattle.write_steps.proofs.PickLaws.{nth, pick-wrote, choice-index, nth-from, count-lent, nth-lent}
 
 sure-each : (S : ℕ → Bool) (k n i : ℕ) → sureEach S k n ≡ true → i < n → S (k + i) ≡ true
 unfolding sureEach

@@ -11,11 +11,12 @@ use borrow.Author.Tests.{ltb-false}
 use Rattle.x691.specs.Types.{Value, Pick}
 use Rattle.x691.specs.Encoding.{count, encode, encodePick}
 use Rattle.atn.specs.Format.{Fmt, choice, Alts, none-left, _∥_, typeOf, alternativesOf}
+use Rattle.atn.specs.Alternatives.{alternativesFrom}
 use Rattle.atn.specs.Messages.{noReader, argument}
 use Rattle.atn.specs.Reading.{Ctx}
 use Rattle.record_lists.specs.Items.{Item, plain}
 use Rattle.record_lists.specs.Parse.{Got, no, got, valueOf, leaf, keep, feed, turn, parse, parsePick}
-use Rattle.node_tables.specs.Nodes.{alternativesFrom, lentAlternatives}
+use Rattle.node_tables.specs.Nodes.{lentAlternatives}
 use Rattle.pens.specs.declared.Pen.{Pen}
 use Rattle.pens.specs.Writes.{Took, Wrote}
 use Rattle.write_leaves.specs.Index.{indexOf}
@@ -68,11 +69,6 @@ choice-index t n fs x c R = go (leaf (λ i. plain t (x .0) i 0 ∷ []) (λ i. tr
 ---------------------------------------------------------------- alternatives in a table
 
 module _ (F : ℕ → Fmt) where
-  pub count-from : (k n : ℕ) → count (alternativesOf (alternativesFrom F k n)) ≡ n
-  unfolding alternativesFrom count
-  count-from k zero = refl
-  count-from k (suc n) = ap suc (count-from (suc k) n)
-
   pub nth-from : (k n i : ℕ) → i < n → nth (alternativesFrom F k n) i ≡ F (k + i)
   unfolding alternativesFrom nth
   nth-from k zero i h = absurd (omega arith)
