@@ -45,8 +45,8 @@ pub fn save_short(book: &[u32; 10]) {
 }
 
 // Another number of free places than there are.
-pub fn miscount(book: &mut [u32; 10]) {
-    book[1] = 1;
+pub fn miscount(book: &mut [u32; 10], number: u32) {
+    book[1] = number;
     let mut line = listing::new();
     let n = put_text(&mut line, 0, b"miscounted");
     end(&mut line, n, book);
@@ -57,5 +57,12 @@ pub fn short(book: &mut [u32; 1]) {
     empty_book(book);
     let mut line = listing::new();
     let n = put_text(&mut line, 0, b"one word");
+    end(&mut line, n, book);
+}
+
+// Two words, without a place.
+pub fn number_alone(book: &[u32; 2]) {
+    let mut line = listing::new();
+    let n = put_text(&mut line, 0, b"two words");
     end(&mut line, n, book);
 }

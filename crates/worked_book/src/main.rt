@@ -6,6 +6,7 @@ mod said; // said.rt: what a line says of an answer
 fn main() {
     two_places();
     no_number();
+    no_place();
 }
 
 fn two_places() {
@@ -21,8 +22,9 @@ fn two_places() {
     refused(&mut book);
     calls::load(&mut book, b"");
     calls::save(&book);
-    calls::miscount(&mut book);
+    calls::miscount(&mut book, 1);
     calls::save(&book);
+    calls::miscount(&mut book, 3);
 }
 
 // Three names, a name twice, a number twice, no line feed, a digit in lower case.
@@ -42,4 +44,10 @@ fn refused(book: &mut [u32; 10]) {
 fn no_number() {
     let mut book = [7u32; 1];
     calls::short(&mut book);
+}
+
+// A number of free places where there is no place.
+fn no_place() {
+    let book = [5u32, 7];
+    calls::number_alone(&book);
 }
