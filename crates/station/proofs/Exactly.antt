@@ -20,19 +20,8 @@ use Rattle.station.specs.declared.Offered.{Offered}
 use Rattle.station.specs.declared.Offered.the-variants.{Bound, Repeated, Refused}
 use Rattle.station.specs.Offers.{Call, nameOf, entry, answered, offer}
 use Rattle.station.specs.Sights.{Sight, sameName, sight, bookAnswer}
+use Rattle.station.specs.Binds.{Binds}
 use Rattle.station.proofs.Seen.{added, said}
-
--- nothing stands against the call
-pub record Binds (c : Call) (w : List ℕ) : Type 0 where
-  pub claimed : c .arrived ≤ length (c .capture) * 8
-  -- a clean forward message (forward_names: Identifies)
-  pub named : nameOf c .number ≡ 0
-  pub whole : nameOf c .reach ≤ c .arrived
-  pub kept : List Entry
-  pub sound : held w ≡ some kept
-  pub number-free : holds (numbered (c .number)) kept ≡ false
-  pub name-new : holds (sameName c) kept ≡ false
-  pub place-free : length kept < room w
 
 not-bound : (n p k : ℕ) → Refused n p k ≡ Bound → ⊥
 not-bound n p k e = let z : _≡_ {A = ℕ} 0 1 = cc in omega arith

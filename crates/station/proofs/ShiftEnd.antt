@@ -11,7 +11,7 @@ use Rattle.station.specs.declared.Offered.{Offered}
 use Rattle.station.specs.declared.Offered.the-variants.{Bound, Repeated, Refused}
 use Rattle.station.specs.declared.Shift.{Shift}
 use Rattle.station.specs.Offers.{Call, offer}
-use Rattle.station.specs.Shifts.{none-yet, next, isBound, isRepeated, isRefused, counted, offer-counted, Turn, Day, begun, after, worked, run, callsOf, answersOf, counting, times}
+use Rattle.station.specs.Shifts.{none-yet, next, isBound, isRepeated, isRefused, counted, offer-counted, Turn, Day, begun, after, worked, run, callsOf, answersOf, counting, times, Balanced}
 
 -- the shift of each station has counted the answers to its own calls, whosever calls stood between them
 pub counts-own : (p : ℕ) (d : Day) (ts : List Turn) → worked d ts .shift p ≡ counting (d .shift p) (answersOf p (d .book) ts)
@@ -75,14 +75,6 @@ all-times : (A : List Offered) → times (λ a. true) A ≡ length A
 unfolding times
 all-times [] = refl
 all-times (a ∷ A) = omega (arith, all-times A)
-
--- what a shift has counted of the calls that one station made
-pub record Balanced (s : Shift) (calls : List Call) (A : List Offered) : Type 0 where
-  pub offered : s .offered ≡ length calls
-  pub bound : s .bound ≡ times isBound A
-  pub repeated : s .repeated ≡ times isRepeated A
-  pub refused : s .refused ≡ times isRefused A
-  pub sum : s .offered ≡ s .bound + s .repeated + s .refused
 
 -- for any calls of any stations from any book; 2^64 calls of one shift are not made
 pub shift-end : (p : ℕ) (w : List ℕ) (ts : List Turn) → length (callsOf p ts) < 2 ^ 64 → Balanced (worked (begun w) ts .shift p) (callsOf p ts) (answersOf p w ts)

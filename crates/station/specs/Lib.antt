@@ -1,3 +1,4 @@
 pub mod Offers
 pub mod Sights
+pub mod Binds
 pub mod Shifts

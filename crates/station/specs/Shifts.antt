@@ -1,7 +1,9 @@
 -- A shift: what a station has counted, and the calls of the stations that share one book.
+use mathlib.Core.Path.{_≡_}
 use mathlib.Core.Bool.{Bool, true, false, cond}
 use mathlib.Core.List.{List, [], _∷_}
 use Prim.Native.Nat.{ℕ, _+_, _%_, _^_}
+use lib.ListN.{length}
 use lib.Dec.{eqb}
 use Rattle.station.specs.declared.Offered.{Offered}
 use Rattle.station.specs.declared.Offered.the-variants.{Bound, Repeated, Refused}
@@ -91,3 +93,11 @@ counting s (a ∷ A) = counting (counted s a) A
 unfoldable pub times : (Offered → Bool) → List Offered → ℕ
 times fits [] = 0
 times fits (a ∷ A) = cond (fits a) 1 0 + times fits A
+
+-- "At shift's end the captures offered equal the bound, the repeated and the turned away, each counted from the calls made": the shift of one station, its calls and the answers to them
+pub record Balanced (s : Shift) (calls : List Call) (A : List Offered) : Type 0 where
+  pub offered : s .offered ≡ length calls
+  pub bound : s .bound ≡ times isBound A
+  pub repeated : s .repeated ≡ times isRepeated A
+  pub refused : s .refused ≡ times isRefused A
+  pub sum : s .offered ≡ s .bound + s .repeated + s .refused
