@@ -30,7 +30,7 @@ fn is_begun(words: &[u64], i: usize, at: u64) -> bool
     true
 }
 
-// Whether the places never fall, and end within the longest frame.
+// Whether the places never fall and stay within the longest frame, and no span begins before its field.
 pub fn are_placed(words: &[u64]) -> bool
     ensures { λ r. ⌜ r ≡ placed 0 (recordsFrom 0 (now (words .entry))) ⌝ }
 {
