@@ -126,7 +126,7 @@ without-length k (e ∷ E) p = go (numbered k e) p (without-length k E)
     go true q h = refl
     go false q h = ap suc (h (omega arith))
 
-holds-without : (fits : Entry → Bool) (k : ℕ) (E : List Entry) → holds fits E ≡ false → holds fits (without k E) ≡ false
+pub holds-without : (fits : Entry → Bool) (k : ℕ) (E : List Entry) → holds fits E ≡ false → holds fits (without k E) ≡ false
 unfolding without holds
 holds-without fits k [] h = h
 holds-without fits k (e ∷ E) h = go (numbered k e) (holds-without fits k E (n .1))

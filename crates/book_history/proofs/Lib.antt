@@ -4,3 +4,4 @@ pub mod Once
 pub mod Refused
 pub mod SameBook
 pub mod SoundLeft
+pub mod Withdrawals

@@ -20,7 +20,7 @@ pub data In (e : Entry) : List Entry → Type 0 where
   here : {E : List Entry} → In e (e ∷ E)
   there : {f : Entry} {E : List Entry} → In e E → In e (f ∷ E)
 
-in-holds : (fits : Entry → Bool) {e : Entry} (E : List Entry) → In e E → fits e ≡ true → holds fits E ≡ true
+pub in-holds : (fits : Entry → Bool) {e : Entry} (E : List Entry) → In e E → fits e ≡ true → holds fits E ≡ true
 unfolding holds
 in-holds fits (f ∷ E) here g = rw g
 in-holds fits (f ∷ E) (there m) g = go (fits f) (in-holds fits E m g)
@@ -37,7 +37,7 @@ name-once {e} (g ∷ E) o (there m) here a = absurd (true≢false (sym (in-holds
 name-once (g ∷ E) o (there m) (there n) a = name-once E (others g E o) m n a
 
 -- the numbers behind an entry are higher
-higher : (g : Entry) {e : Entry} (E : List Entry) → before g E ≡ true → orderly E ≡ true → In e E → g .number < e .number
+pub higher : (g : Entry) {e : Entry} (E : List Entry) → before g E ≡ true → orderly E ≡ true → In e E → g .number < e .number
 higher g (f ∷ E) b o here = ltb-true (g .number) (f .number) b
 higher g (f ∷ E) b o (there m) = omega (arith, ltb-true (g .number) (f .number) b, higher f E (first-fair f E o .before) (others f E o) m)
 
@@ -48,7 +48,7 @@ number-once (g ∷ E) o (there m) here a = absurd (omega (arith, higher g E (fir
 number-once (g ∷ E) o (there m) (there n) a = number-once E (others g E o) m n a
 
 -- the first that fits is one of the entries, and fits
-first-in : (fits : Entry → Bool) (E : List Entry) → holds fits E ≡ true → In (first fits E) E × (fits (first fits E) ≡ true)
+pub first-in : (fits : Entry → Bool) (E : List Entry) → holds fits E ≡ true → In (first fits E) E × (fits (first fits E) ≡ true)
 unfolding holds place
 first-in fits [] h = absurd (false≢true h)
 first-in fits (e ∷ E) h = go (fits e) refl h (first-in fits E)
