@@ -28,19 +28,19 @@ range-fits lo hi = leb (raised lo) (raised hi)
 unfoldable pub kind-fits : ℕ → ℕ → ℕ → Bool
 kind-fits kind b c =
     getD
-    (range-fits b c
-    ∷ range-fits 0 b
-    ∷ leb b c
-    ∷ true
-    ∷ true
-    ∷ leb 1 c
-    ∷ true
-    ∷ true
-    ∷ true
-    ∷ true
-    ∷ true
-    ∷ true
-    ∷ true
+    (range-fits b c  -- a ranged number
+    ∷ range-fits 0 b  -- a name
+    ∷ leb b c  -- a text
+    ∷ true  -- a fixed bit count
+    ∷ true  -- a sequence
+    ∷ leb 1 c  -- a choice
+    ∷ true  -- an optional member
+    ∷ true  -- an unread member
+    ∷ true  -- an alternative without a reader
+    ∷ true  -- an alternative outside the listed values
+    ∷ true  -- an extension
+    ∷ true  -- a headed part
+    ∷ true  -- another node
     ∷ [])
     kind false
 
