@@ -7,3 +7,4 @@ pub mod Words
 pub mod Rewritten
 pub mod EveryClean
 pub mod Unplaced
+pub mod LeftOut

@@ -24,7 +24,7 @@ use Rattle.record_lists.specs.Most.{most}
 use Rattle.record_lists.proofs.Longest.{longest}
 use Rattle.fixture_promises.proofs.BitsBelow.{encode-below}
 use Rattle.fixture_promises.proofs.Bytes.{bytes-length, bytes-below, bytes-spell, bytes-room}
-use Rattle.fixture_promises.proofs.Accepted.{accepted}
+use Rattle.fixture_promises.proofs.Accepted.{Accepted, accepted}
 
 -- the bits that a list gives are bits
 pub write-below : (f : Fmt) (b : ℕ → ℕ) (e : ℕ) (R : List Rec) {B : List ℕ} → write spanTag f b e R ≡ some B → All (λ c. c < 2) B
@@ -33,6 +33,13 @@ write-below f b e R h = let x = write-inv spanTag f b e R h in rw (x .coded) (en
 -- and no more than the format has at most
 pub write-most : (f : Fmt) (b : ℕ → ℕ) (e : ℕ) (R : List Rec) {B : List ℕ} → write spanTag f b e R ≡ some B → length B ≤ most f
 write-most f b e R h = let x = write-inv spanTag f b e R h in rw (x .coded) (longest f (x .val) (x .inRange))
+
+-- the bytes that the bits fill are theirs
+pub front-bytes : {k d : ℕ} {down up W s out : List ℕ} {n : ℕ} {out′ : List ℕ} (a : Accepted k d down up W s out n out′) → take ((n + 7) / 8) out′ ≡ bytesOf (a .bits)
+unfolding bytesNeeded
+front-bytes {out = out} {out′ = out′} a =
+    let B : List ℕ = a .bits in
+    ap (λ (z : ℕ). take ((z + 7) / 8) out′) (a .count) ∙ ap (λ (z : List ℕ). take (bytesNeeded B) z) (a .filled) ∙ take-at (bytesOf B) (drop (bytesNeeded B) out) (bytesNeeded B) (bytes-length B)
 
 -- what n bits written into the lent bytes `out`, now out′, promise
 pub record ReadBack (k d : ℕ) (down up W s out : List ℕ) (n : ℕ) (out′ : List ℕ) : Type 0 where
@@ -79,7 +86,7 @@ written-read k d down up W s out {n} {out′} h =
       count = a .count;
       below = b;
       filled = a .filled;
-      front = ap (λ (z : ℕ). take ((z + 7) / 8) out′) (a .count) ∙ ap (λ (z : List ℕ). take (bytesNeeded B) z) (a .filled) ∙ take-at (bytesOf B) (drop (bytesNeeded B) out) (bytesNeeded B) (bytes-length B);
+      front = front-bytes a;
       bytes = bytes-below B b;
       recs = r .recs;
       clean = r .clean ∙ ap (λ (z : ℕ). accept false z 0 (r .recs)) (sym (a .count));

@@ -1,12 +1,13 @@
--- A value of a CPDLC message is plain unless it is one of the two exceptions of request a).
+-- A value of a CPDLC message is plain unless it is one of the two exceptions of request a), and then it is not.
 use mathlib.Core.Path.{_≡_, refl}
-use mathlib.Core.Bool.{true}
+use mathlib.Core.Bool.{true, true≢false}
 use mathlib.Core.Option.{Option, none, some}
 use mathlib.Core.Logic.{inl, inr}
 use mathlib.Core.List.{List, [], _∷_}
 use Prim.Native.Nat.{ℕ, zero, suc}
-use Rattle.x691.specs.Types.{Value}
-use Rattle.x691.specs.Range.{IfAny, member}
+use native.Mathlib.Omega.{arith}
+use Rattle.x691.specs.Types.{Value, extent}
+use Rattle.x691.specs.Range.{IfAny, InRange, member}
 use Rattle.atn.specs.Format.{Fmt, typeOf, many, element, choice, seq, span, _⨾_, end}
 use Rattle.atn.specs.Messages.{dateTimeGroup, ia5, arguments, noReader, argumentOf, elements, constrainedData, messageData, atcMessage, protectedMessage, forward, aircraftPdus, groundPdus}
 use Rattle.atn.specs.Tags as tag
@@ -93,3 +94,46 @@ ground-pdus-plain down up (inr (inr (inr (inl v)))) h = protected-plain up v h
 ground-pdus-plain down up (inr (inr (inr (inr (inl v))))) h = forward-plain down up v h
 ground-pdus-plain down up (inr (inr (inr (inr (inr (inl v)))))) h = tt
 ground-pdus-plain down up (inr (inr (inr (inr (inr (inr v)))))) h = absurd h
+
+---------------------------------------------------------------- the other way round
+
+module _ (table : List ℕ) where
+  data-spares : (v : Value (typeOf (messageData table))) → Plain (messageData table) v (0, 0) → dataSpares table v
+  unfolding solid shown showAny showAll
+  data-spares (vs, (none, u)) h = tt
+  data-spares (vs, (some (none, w), u)) h = h .1 .0 .0
+  data-spares (vs, (some (some [], w), u)) h = h .1 .0 .0
+  data-spares (vs, (some (some (c ∷ cs), w), u)) h = tt
+
+  -- of an acknowledgment's two values the default begins as the note does
+  message-spares : (v : Value (typeOf (atcMessage table))) → InRange (typeOf (atcMessage table)) v → Plain (atcMessage table) v (0, 0) → messageSpares table v
+  unfolding extent solid unlike single firsts member begins shown word same
+  message-spares (n, (r, (d, (none, (x, u))))) g h = (tt, data-spares x (h .1 .1 .1 .1 .0))
+  message-spares (n, (r, (d, (some zero, (x, u))))) g h = (refl, data-spares x (h .1 .1 .1 .1 .0))
+  message-spares (n, (r, (d, (some (suc zero), (x, u))))) g h = absurd (true≢false (h .1 .1 .1 .0 .0))
+  message-spares (n, (r, (d, (some (suc (suc v)), (x, u))))) g h = absurd (omega (arith, g .1 .1 .1 .0))
+
+  protected-spares : (v : Value (typeOf (protectedMessage table))) → InRange (typeOf (protectedMessage table)) v → Plain (protectedMessage table) v (0, 0) → protectedSpares table v
+  protected-spares (a, (none, r)) g h = tt
+  protected-spares (a, (some m, r)) g h = message-spares m (g .1 .0 .1) (h .1 .0 .1)
+
+pub aircraft-pdus-spare : (down : List ℕ) (v : Value (typeOf (aircraftPdus down))) → InRange (typeOf (aircraftPdus down)) v → Plain (aircraftPdus down) v (0, 0) → aircraftSpares down v
+aircraft-pdus-spare down (inl v) g h = tt
+aircraft-pdus-spare down (inr (inl v)) g h = tt
+aircraft-pdus-spare down (inr (inr (inl v))) g h = protected-spares down (v .1 .0) (g .1 .0) (h .1 .0)
+aircraft-pdus-spare down (inr (inr (inr (inl v)))) g h = protected-spares down v g h
+aircraft-pdus-spare down (inr (inr (inr (inr v)))) g h = h
+
+forward-spares : (down up : List ℕ) (v : Value (typeOf (forward down up))) → Plain (forward down up) v (0, 0) → forwardSpares down up v
+forward-spares down up (b, (inl v, u)) h = data-spares up v (h .1 .0)
+forward-spares down up (b, (inr (inl v), u)) h = data-spares down v (h .1 .0)
+forward-spares down up (b, (inr (inr v), u)) h = h .1 .0
+
+pub ground-pdus-spare : (down up : List ℕ) (v : Value (typeOf (groundPdus down up))) → InRange (typeOf (groundPdus down up)) v → Plain (groundPdus down up) v (0, 0) → groundSpares down up v
+ground-pdus-spare down up (inl v) g h = tt
+ground-pdus-spare down up (inr (inl v)) g h = tt
+ground-pdus-spare down up (inr (inr (inl v))) g h = protected-spares up v g h
+ground-pdus-spare down up (inr (inr (inr (inl v)))) g h = protected-spares up v g h
+ground-pdus-spare down up (inr (inr (inr (inr (inl v))))) g h = forward-spares down up v h
+ground-pdus-spare down up (inr (inr (inr (inr (inr (inl v)))))) g h = tt
+ground-pdus-spare down up (inr (inr (inr (inr (inr (inr v)))))) g h = h

@@ -87,7 +87,7 @@ module _ {A : Type 0} where
       let i = peel-inv (h a) a R (c .1) in
       (rw (i .0) (c .0), rw (i .0) (i .1))
 
-  keep-inv : (g : A → Bool) (x : Got A) {v : A} {S : List Item} → keep g x ≡ got v S → (x ≡ got v S) × (g v ≡ true)
+  pub keep-inv : (g : A → Bool) (x : Got A) {v : A} {S : List Item} → keep g x ≡ got v S → (x ≡ got v S) × (g v ≡ true)
   unfolding keep
   keep-inv g no h = nothing h
   keep-inv g (got a R) {v} h =
@@ -119,7 +119,7 @@ module _ {A : Type 0} (P : A → Type 0) (h : ℕ → A → List Item) (p : ℕ 
       rw (y .2) ((omega (arith, b .0 .0), (a .0, b .0 .1)), onward (h i (x .0)) (showAll h (suc i) (y .0)) S (a .1) (b .1))
   several-step i n R false k ik vs S q = let z : vs ≡ [] = cc in rw z ((omega arith, tt), cc)
 
-  several-inv : (o : List Item → Bool) (i n : ℕ) (R : List Item) {vs : List A} {S : List Item} → several p o i n R ≡ got vs S
+  pub several-inv : (o : List Item → Bool) (i n : ℕ) (R : List Item) {vs : List A} {S : List Item} → several p o i n R ≡ got vs S
       → Tells (λ xs. (length xs ≤ n) × All P xs) (λ xs. showAll h i xs) R vs S
   unfolding several showAll
   several-inv o i zero R {vs} q = let e : vs ≡ [] = cc in rw e ((omega arith, tt), cc)

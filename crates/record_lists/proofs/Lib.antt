@@ -7,3 +7,4 @@ pub mod Messages
 pub mod Longest
 pub mod Firm
 pub mod Exceptions
+pub mod Spared

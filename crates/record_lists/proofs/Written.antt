@@ -25,6 +25,7 @@ use Rattle.record_lists.specs.Write.{encoded, write}
 use Rattle.record_lists.proofs.Forth.{forth}
 use Rattle.record_lists.proofs.Back.{back}
 use Rattle.record_lists.proofs.Seen.{seen}
+use Rattle.record_lists.proofs.Spared.{plain-got}
 use Rattle.record_lists.proofs.Messages.{nothing}
 
 encoded-inv : (f : Fmt) (x : Got (Value (typeOf f))) {B : List ℕ} → encoded f x ≡ some B → (v : Value (typeOf f)) × (x ≡ got v []) × (B ≡ encode (typeOf f) v)
@@ -50,6 +51,18 @@ write-inv sp f b e R {B} h = go (inside sp e R) refl h
         let x = encoded-inv f (parse f (0, 0) (look sp b R)) k in
         let y = forth f (0, 0) (look sp b R) (x .1) in
         record { val = x .0; inRange = y .0; shows = y .1 ∙ append-nil (shown f (x .0) (0, 0)); coded = x .2; within = q }
+    go false q k = nothing k
+
+-- what is written is the encoding of a plain value: no default is written out, and no part that shows nothing
+pub write-plain : (sp : ℕ → Bool) (f : Fmt) (b : ℕ → ℕ) (e : ℕ) (R : List Rec) {B : List ℕ} → clear sp f [] ≡ true → write sp f b e R ≡ some B → (l : Lists sp f b e R B) × Plain f (l .val) (0, 0)
+unfolding write
+write-plain sp f b e R {B} c h = go (inside sp e R) refl h
+  where
+    go : (t : Bool) → inside sp e R ≡ t → cond t (encoded f (parse f (0, 0) (look sp b R))) none ≡ some B → (l : Lists sp f b e R B) × Plain f (l .val) (0, 0)
+    go true q k =
+        let x = encoded-inv f (parse f (0, 0) (look sp b R)) k in
+        let y = forth f (0, 0) (look sp b R) (x .1) in
+        (record { val = x .0; inRange = y .0; shows = y .1 ∙ append-nil (shown f (x .0) (0, 0)); coded = x .2; within = q }, plain-got f (0, 0) sp [] (look sp b R) c (x .1) tt)
     go false q k = nothing k
 
 -- a list that shows a plain value is accepted
