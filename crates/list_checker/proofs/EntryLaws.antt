@@ -1,13 +1,13 @@
 -- Every entry is its tests and its reading, and a clean reading has at most 8,324 records.
 use mathlib.Core.Path.{_≡_, refl}
 use mathlib.Core.Bool.{Bool, true, false}
-use mathlib.Core.List.{List, _∷_}
+use mathlib.Core.List.{List}
 use Prim.Native.Nat.{ℕ, zero, suc, _≤_}
 use native.Mathlib.Omega.{arith}
 use lib.ListN.{length}
 use Rattle.atn.specs.Reading.{Rec}
 use Rattle.atn.specs.Messages.{aircraftPdus, groundPdus, cmGround, cmAircraft, acse}
-use Rattle.atn.specs.Entries.{Reply, accept, ranOut, badly, unsupplied, orElse, afterOut, afterBad, readFrame, Test, test, frame-fits, decide, enter, pdus, cmOf, parse-pdus, parse-apdu, parse-cm, parse-acse-apdu}
+use Rattle.atn.specs.Entries.{Reply, accept, ranOut, badly, unsupplied, orElse, afterOut, afterBad, readFrame, decide, enter, pdus, cmOf, parse-pdus, parse-apdu, parse-cm, parse-acse-apdu}
 use Rattle.atn.proofs.Outcomes.{early}
 use Rattle.record_bounds.specs.Most.{most}
 use Rattle.record_bounds.proofs.Fewer.{clean-few}
@@ -15,10 +15,7 @@ use Rattle.record_bounds.proofs.Messages.{pdus-most, cm-ground-most, cm-aircraf
 use Rattle.list_checker.specs.declared.entries.Entry.{Entry}
 use Rattle.list_checker.specs.declared.entries.Entry.the-variants.{Apdu, Pdus, Cm, Acse}
 use Rattle.list_checker.specs.Entered.{entered, testsOf, readingOf}
-
--- the frame's length is tested first
-abbrev pub allTests : List ℕ → Entry → List ℕ → List ℕ → List Test
-allTests s e down up = test (frame-fits s) 1 ∷ testsOf e down up
+use Rattle.list_checker.specs.Checks.{allTests}
 
 pub tests-and-reading : (s : List ℕ) (e : Entry) (down up w : List ℕ) → entered e down up s w ≡ decide (allTests s e down up) (readingOf e down up s) w
 unfolding entered testsOf readingOf parse-apdu parse-pdus parse-cm parse-acse-apdu enter

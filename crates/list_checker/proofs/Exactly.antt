@@ -15,16 +15,10 @@ use Rattle.list_comparison.specs.declared.Checked.the-variants.{Yes}
 use Rattle.list_comparison.proofs.YesLaws.{same-yes, yes-same}
 use Rattle.list_checker.specs.declared.entries.Entry.{Entry}
 use Rattle.list_checker.specs.Entered.{entered, readingOf}
-use Rattle.list_checker.specs.Checks.{held, checked, check-list}
-use Rattle.list_checker.proofs.EntryLaws.{allTests, tests-and-reading}
+use Rattle.list_checker.specs.Checks.{held, checked, allTests, check-list}
+use Rattle.list_checker.specs.Clean.{Clean}
+use Rattle.list_checker.proofs.EntryLaws.{tests-and-reading}
 use Rattle.list_checker.proofs.JudgeLaws.{checked-go, said-clean}
-
--- the reading is clean, and the list is its records
-pub record Clean (r : Reply) (l : List ℕ) : Type 0 where
-  pub reach : ℕ
-  pub recs : List Rec
-  pub is : r ≡ accept false reach 0 recs
-  pub list : l ≡ flat recs
 
 held-clean : (r : Reply) (l : List ℕ) → held r l ≡ Yes → Clean r l
 unfolding held

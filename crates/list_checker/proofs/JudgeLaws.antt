@@ -21,9 +21,9 @@ use Rattle.list_comparison.specs.declared.Checked.the-variants.{Refused}
 use Rattle.list_comparison.specs.Compared.{compared}
 use Rattle.list_checker.specs.declared.entries.Entry.{Entry}
 use Rattle.list_checker.specs.Entered.{entered, readingOf}
-use Rattle.list_checker.specs.Checks.{held, checked, check-list}
+use Rattle.list_checker.specs.Checks.{held, checked, allTests, check-list}
 use Rattle.list_checker.specs.Judged.{isFull, Fits, Judges}
-use Rattle.list_checker.proofs.EntryLaws.{allTests, tests-and-reading, tests-early, reading-few}
+use Rattle.list_checker.proofs.EntryLaws.{tests-and-reading, tests-early, reading-few}
 
 ---------------------------------------------------------------- of any tests and any reading
 

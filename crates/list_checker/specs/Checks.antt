@@ -24,6 +24,10 @@ checked [] r l = held r l
 checked (test true n ∷ ts) r l = checked ts r l
 checked (test false n ∷ ts) r l = Refused n
 
--- frame, entry, tables, list
+-- frame, entry, tables: the frame's length is tested first
+abbrev pub allTests : List ℕ → Entry → List ℕ → List ℕ → List Test
+allTests s e down up = test (frame-fits s) 1 ∷ testsOf e down up
+
+-- and list
 unfoldable pub check-list : List ℕ → Entry → List ℕ → List ℕ → List ℕ → Checked
-check-list s e down up l = checked (test (frame-fits s) 1 ∷ testsOf e down up) (readingOf e down up s) l
+check-list s e down up l = checked (allTests s e down up) (readingOf e down up s) l

@@ -1,3 +1,4 @@
 pub mod Entered
 pub mod Checks
+pub mod Clean
 pub mod Judged

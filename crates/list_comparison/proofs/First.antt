@@ -11,23 +11,9 @@ use Rattle.atn.specs.Entries.{flat}
 use Rattle.atn.specs.Reading.{Rec, rec}
 use Rattle.atn.proofs.Inverse.{both}
 use Rattle.list_comparison.specs.declared.Checked.{Checked}
-use Rattle.list_comparison.specs.declared.Checked.the-variants.{Yes, Differs, Missing, TooMany, Incomplete, Refused}
+use Rattle.list_comparison.specs.declared.Checked.the-variants.{Differs}
 use Rattle.list_comparison.specs.Compared.{compared}
-
--- the place that is named, 0 for none
-unfoldable pub placeOf : Checked → ℕ
-placeOf Yes = 0
-placeOf (Differs i) = i
-placeOf (Missing i) = i
-placeOf (TooMany i) = i
-placeOf (Incomplete i) = i
-placeOf (Refused n) = 0
-
--- k records of the list are the reading's, and the next is not; where the reading has no more, the list has
-pub record First (k : ℕ) (R : List Rec) (l : List ℕ) : Type 0 where
-  pub before : take (k * 5) l ≡ flat (take k R)
-  pub here : k < length R → take (suc k * 5) l ≡ flat (take (suc k) R) → ⊥
-  pub behind : length R ≤ k → (k ≡ length R) × (k * 5 < length l)
+use Rattle.list_comparison.specs.First.{placeOf, First}
 
 ---------------------------------------------------------------- no place before the start
 
