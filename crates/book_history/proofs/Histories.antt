@@ -8,7 +8,8 @@ use Rattle.counted_books.specs.declared.Free.the-variants.{Places}
 use Rattle.counted_books.specs.Counted.{emptied, free}
 use Rattle.counted_books.proofs.Held.{holding}
 use Rattle.book_history.specs.History.{Call, run, history}
-use Rattle.book_history.proofs.Kept.{Keeps, keeps-shown, no-entries, emptied-shown, kept}
+use Rattle.book_history.specs.Keeps.{Keeps}
+use Rattle.book_history.proofs.Kept.{keeps-shown, no-entries, emptied-shown, kept}
 
 pub kept-all : {n : ℕ} {w : List ℕ} {E : List Entry} → Keeps n w E → (cs : List Call) → Keeps n (run w cs) (history ((n - 2) / 4) E cs)
 unfolding run history

@@ -9,13 +9,15 @@ use borrow.Author.Tests.{le-ltb}
 use Rattle.book_entries.specs.declared.Entry.{Entry}
 use Rattle.book_entries.specs.Book.{orderly}
 use Rattle.counted_books.specs.Counted.{room, shown, held, emptied}
-use Rattle.counted_books.proofs.Held.{Fits, holding, shown-length, held-shown}
+use Rattle.counted_books.specs.Holding.{Fits}
+use Rattle.counted_books.proofs.Held.{holding, shown-length, held-shown}
 use Rattle.name_book.specs.Calls.{opened, offer, add, take-out, withdraw}
 use Rattle.name_book.proofs.FitLaws.{offered, taken}
 use Rattle.book_lines.specs.Lines.{lines}
 use Rattle.loaded_books.specs.Loads.{replaced, load}
 use Rattle.loaded_books.proofs.FitLaws.{loaded}
 use Rattle.book_history.specs.History.{Call, emptying, adding, withdrawing, loading, after, says}
+use Rattle.book_history.specs.Keeps.{Keeps}
 
 pub no-entries : (places : ℕ) → Fits places []
 unfolding orderly
@@ -43,12 +45,6 @@ after-is w E h emptying = emptied-shown (length w) (holding w h .long)
 after-is w E h (adding e) = opened-words _ w (offer (room w) e) E h
 after-is w E h (withdrawing k) = opened-words _ w (take-out k) E h
 after-is w E h (loading t) = opened-words _ w (replaced (room w) (lines [] t)) E h
-
--- so many words hold E, which fits
-pub record Keeps (n : ℕ) (w : List ℕ) (E : List Entry) : Type 0 where
-  pub long : length w ≡ n
-  pub holds : held w ≡ some E
-  pub fits : Fits ((n - 2) / 4) E
 
 pub keeps-shown : (n : ℕ) (w : List ℕ) (E : List Entry) → 2 ≤ n → Fits ((n - 2) / 4) E → w ≡ shown n E → Keeps n w E
 keeps-shown n w E l f e = record { long = ap length e ∙ shown-length n E l f; holds = rw e (held-shown n E l f); fits = f }

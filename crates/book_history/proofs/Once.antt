@@ -14,11 +14,7 @@ use Rattle.book_changes.specs.Changes.{without, vacant}
 use Rattle.book_changes.proofs.Orderly.{alike, alike-comm, first-fair, others}
 use Rattle.name_book.specs.Calls.{first, find}
 use Rattle.name_book.specs.declared.Found as found
-
--- e is one of the entries
-pub data In (e : Entry) : List Entry → Type 0 where
-  here : {E : List Entry} → In e (e ∷ E)
-  there : {f : Entry} {E : List Entry} → In e E → In e (f ∷ E)
+use Rattle.book_history.specs.Keeps.{In, here, there}
 
 pub in-holds : (fits : Entry → Bool) {e : Entry} (E : List Entry) → In e E → fits e ≡ true → holds fits E ≡ true
 unfolding holds

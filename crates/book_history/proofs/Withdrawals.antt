@@ -22,8 +22,9 @@ use Rattle.name_book.specs.declared.Found as found
 use Rattle.name_book.specs.Calls.{first, opened, offer, add, take-out, withdraw, find, look-up}
 use Rattle.name_book.proofs.FitLaws.{either}
 use Rattle.book_history.specs.History.{withdrawing, after, says}
-use Rattle.book_history.proofs.Kept.{Keeps, kept}
-use Rattle.book_history.proofs.Once.{In, here, there, in-holds, higher, first-in, name-once}
+use Rattle.book_history.specs.Keeps.{Keeps, In, here, there}
+use Rattle.book_history.proofs.Kept.{kept}
+use Rattle.book_history.proofs.Once.{in-holds, higher, first-in, name-once}
 use Rattle.book_history.proofs.Refused.{add-left}
 
 ---------------------------------------------------------------- of the entries

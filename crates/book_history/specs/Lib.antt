@@ -1,2 +1,3 @@
 pub mod History
 pub mod Left
+pub mod Keeps

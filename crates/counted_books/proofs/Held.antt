@@ -15,20 +15,7 @@ use Rattle.book_entries.proofs.Tests.{both}
 use Rattle.book_entries.proofs.Listed.{listing, laid-is, laid-length, listed-laid}
 use Rattle.counted_books.specs.declared.Free.the-variants.{Places}
 use Rattle.counted_books.specs.Counted.{high, low, left, room, shown, held, recounted, free}
-
--- entries that so many places can hold
-pub record Fits (places : ℕ) (E : List Entry) : Type 0 where
-  pub orderly : orderly E ≡ true
-  pub few : length E ≤ places
-
--- what is known of a slice that holds E
-pub record Holding (w : List ℕ) (E : List Entry) : Type 0 where
-  pub long : 2 ≤ length w
-  pub places : listed (drop 2 w) ≡ some E
-  pub fits : Fits (room w) E
-  pub is : w ≡ shown (length w) E
-  -- "how many names the book still takes"
-  pub free : free w ≡ Places (room w - length E)
+use Rattle.counted_books.specs.Holding.{Fits, Holding}
 
 judged : (b : Bool) (o : Option (List Entry)) {E : List Entry} → cond b o none ≡ some E → (b ≡ true) × (o ≡ some E)
 judged true o e = (refl, e)

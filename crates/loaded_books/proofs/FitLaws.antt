@@ -12,7 +12,7 @@ use Rattle.book_entries.specs.declared.Entry.{Entry}
 use Rattle.book_entries.specs.Book.{orderly}
 use Rattle.book_changes.specs.Changes.{insert}
 use Rattle.book_changes.proofs.Orderly.{insert-length}
-use Rattle.counted_books.proofs.Held.{Fits}
+use Rattle.counted_books.specs.Holding.{Fits}
 use Rattle.name_book.proofs.FitLaws.{either}
 use Rattle.book_lines.specs.Lines.{lines}
 use Rattle.loaded_books.specs.declared.Loaded.{Loaded}

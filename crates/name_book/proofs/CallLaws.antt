@@ -21,7 +21,8 @@ use Rattle.book_changes.specs.Changes.{insert, vacant}
 use Rattle.book_changes.proofs.LaidLaws.{laid-insert, laid-without}
 use Rattle.counted_books.specs.Counted.{room, shown, held, recounted}
 use Rattle.counted_books.proofs.CountLaws.{lent, lent-is}
-use Rattle.counted_books.proofs.Held.{Fits, holding, recounted-shown}
+use Rattle.counted_books.specs.Holding.{Fits}
+use Rattle.counted_books.proofs.Held.{holding, recounted-shown}
 use Rattle.name_book.specs.declared.Added.{Added}
 use Rattle.name_book.specs.declared.Added.the-variants.{New, Repeated, NoName, Refused}
 use Rattle.name_book.specs.declared.Withdrawn as withdrawn

@@ -12,7 +12,7 @@ use Rattle.book_entries.specs.Entries.{good}
 use Rattle.book_entries.specs.Book.{holds, place, numbered}
 use Rattle.book_entries.proofs.Tests.{holds-place}
 use Rattle.book_changes.proofs.Orderly.{alike, insert-orderly, insert-length, without-orderly, without-length}
-use Rattle.counted_books.proofs.Held.{Fits}
+use Rattle.counted_books.specs.Holding.{Fits}
 use Rattle.name_book.specs.declared.Added.{Added}
 use Rattle.name_book.specs.declared.Withdrawn.{Withdrawn}
 use Rattle.name_book.specs.Calls.{offer, take-out}

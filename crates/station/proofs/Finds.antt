@@ -18,7 +18,6 @@ use Rattle.book_changes.proofs.Orderly.{alike, Fair, first-fair, others}
 use Rattle.name_book.specs.Calls.{first, find, look-up}
 use Rattle.name_book.specs.declared.Found as found
 use Rattle.name_book.specs.declared.Found.{Found}
-use Rattle.book_history.proofs.Kept.{Keeps}
 use Rattle.station.specs.Shifts.{Turn, run}
 use Rattle.station.proofs.Stays.{bindings-stay}
 

@@ -16,10 +16,12 @@ use Rattle.name_book.specs.Calls as book
 use Rattle.name_book.specs.Calls.{add}
 use Rattle.name_book.specs.declared.Added.{Added}
 use Rattle.book_history.specs.History.{adding, after, says}
-use Rattle.book_history.proofs.Kept.{Keeps, kept}
+use Rattle.book_history.specs.Keeps.{Keeps}
+use Rattle.book_history.proofs.Kept.{kept}
 use Rattle.station.specs.declared.Offered.{Offered}
 use Rattle.station.specs.Offers.{Call, nameOf, entry, offer}
 use Rattle.station.specs.Shifts.{Turn, run}
+use Rattle.station.specs.Kept.{Kept}
 
 branch : {A : Type 0} (P : A → Type 0) (b : Bool) {x y : A} → P x → P y → P (cond b x y)
 branch P true p q = p
@@ -36,12 +38,6 @@ stays fits places e E h =
     let P : Added × List Entry → Type 0 = λ o. holds fits (o .1) ≡ true in
     branch P (holds (numbered (e .number)) E) h (branch P (not (good e)) h (branch P (holds (alike e) E) h
     (branch P (ltb (length E) places) (holds-insert fits e E ∙ rw h (or-true (fits e))) h)))
-
--- a book of n words that holds what E had
-pub record Kept (n : ℕ) (E : List Entry) (v : List ℕ) : Type 0 where
-  pub now : List Entry
-  pub keeps : Keeps n v now
-  pub stays : (fits : Entry → Bool) → holds fits E ≡ true → holds fits now ≡ true
 
 -- a call leaves the book, or what adding leaves
 either : (P : List ℕ → Type 0) (c : Call) (w : List ℕ) → P w → P (add w (entry c) .1) → P (offer c w .1)
