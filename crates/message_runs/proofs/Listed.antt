@@ -4,7 +4,7 @@ use mathlib.Core.Bool.{Bool, true, false, cond, _&&_}
 use mathlib.Core.List.{List, [], _∷_, _++_}
 use Prim.Native.Nat.{ℕ, suc, _+_, _≤_, _<_}
 use native.Mathlib.Omega.{arith}
-use lib.ListN.{length, drop, length-append}
+use lib.ListN.{length, length-append}
 use lib.Dec.{leb, ltb}
 use borrow.Author.Tests.{lt-ltb, le-ltb, leb-true, le-leb, lt-leb}
 use Rattle.x691.specs.Range as range
@@ -14,7 +14,7 @@ use Rattle.message_runs.specs.declared.Kind.{Kind}
 use Rattle.message_runs.specs.declared.Starts.{Starts}
 use Rattle.message_runs.specs.declared.Starts.the-variants.{All, UpTo, Refused}
 use Rattle.message_runs.specs.Runs.{formatOf, Cutting, cut, told, listed, list-starts}
-use Rattle.message_runs.specs.Pieces.{Padded, run, places, Way, said, Repadded, Pairwise}
+use Rattle.message_runs.specs.Pieces.{Padded, run, places, filled, Way, said, Repadded, Pairwise}
 use Rattle.message_runs.proofs.OneWay.{cut-is, way, all-clean, same-cut, same-size}
 
 -- an answer with numbers, after the lent ones
@@ -35,11 +35,7 @@ module _ (xs : List (List ℕ)) where
   told-said [] s e = rw (le-ltb (length (run xs)) (length s) (omega (arith, ap length e, length-append (run xs) [])), places-length 0 xs)
   told-said (y ∷ r) s e = rw (lt-ltb (length (run xs)) (length s) (omega (arith, ap length e, length-append (run xs) (y ∷ r))), places-length 0 xs)
 
-  -- the starts in the lent numbers
-  abbrev pub Filled : List ℕ → List ℕ
-  Filled w = places 0 xs ++ drop (length xs) w
-
-  listed-fits : (r s w : List ℕ) → s ≡ run xs ++ r → length xs ≤ length w → listed found s w ≡ (said xs r, Filled w)
+  listed-fits : (r s w : List ℕ) → s ≡ run xs ++ r → length xs ≤ length w → listed found s w ≡ (said xs r, filled xs w)
   unfolding listed found
   listed-fits r s w e l = rw (places-length 0 xs, le-leb (length xs) (length w) l, told-said r s e)
 
@@ -57,7 +53,7 @@ module _ (k : Kind) (d : ℕ) (down up : List ℕ) where
     decided s w h = rw (h, tables, direction)
 
     -- however a run is cut, that is what is listed, if there is room for it
-    pub way-listed : {s : List ℕ} (v : Way format s) (w : List ℕ) → frame-fits s ≡ true → length (v .pieces) ≤ length w → list-starts k d down up s w ≡ (said (v .pieces) (v .rest), Filled (v .pieces) w)
+    pub way-listed : {s : List ℕ} (v : Way format s) (w : List ℕ) → frame-fits s ≡ true → length (v .pieces) ≤ length w → list-starts k d down up s w ≡ (said (v .pieces) (v .rest), filled (v .pieces) w)
     unfolding found
     way-listed {s} v w h l = decided s w h ∙ rw (cut-is k d down up v) (listed-fits (v .pieces) (v .rest) s w (v .whole) l)
 
@@ -66,7 +62,7 @@ module _ (k : Kind) (d : ℕ) (down up : List ℕ) where
     no-room {s} v w h l = decided s w h ∙ rw (cut-is k d down up v) (listed-full (v .pieces) (v .rest) s w l)
 
     -- a run of clean messages: their starts, and nothing is left
-    pub run-listed : (xs : List (List ℕ)) (w : List ℕ) → frame-fits (run xs) ≡ true → range.All (Padded format) xs → length xs ≤ length w → list-starts k d down up (run xs) w ≡ (All (length xs), Filled xs w)
+    pub run-listed : (xs : List (List ℕ)) (w : List ℕ) → frame-fits (run xs) ≡ true → range.All (Padded format) xs → length xs ≤ length w → list-starts k d down up (run xs) w ≡ (All (length xs), filled xs w)
     unfolding said
     run-listed xs w h ps l = way-listed (all-clean k d down up xs ps) w h l
 
@@ -91,14 +87,14 @@ module _ (k : Kind) (d : ℕ) (down up : List ℕ) where
     passed false x n m w h = absurd (answers n m (ap (λ (o : Outcome). o .0) h))
 
     -- an answer with starts is that of a way to cut the run
-    pub listed-way : (s w : List ℕ) → list-starts k d down up s w ≡ (r, w′) → (v : Way format s) × (r ≡ said (v .pieces) (v .rest)) × (w′ ≡ Filled (v .pieces) w)
+    pub listed-way : (s w : List ℕ) → list-starts k d down up s w ≡ (r, w′) → (v : Way format s) × (r ≡ said (v .pieces) (v .rest)) × (w′ ≡ filled (v .pieces) w)
     unfolding list-starts listed found
     listed-way s w h =
         let v = way k d down up s in
         let z = passed (direction-fits d) _ 3 0 w (passed (table-fits down && table-fits up) _ 2 0 w (passed (frame-fits s) _ 1 0 w h .1) .1) .1 in
         let y = rw (cut-is k d down up v) at z in
         let l = passed (leb (length (places 0 (v .pieces))) (length w)) _ 20 _ w y .0 in
-        let e : _≡_ {A = Outcome} (said (v .pieces) (v .rest), Filled (v .pieces) w) (r, w′) = sym (listed-fits (v .pieces) (v .rest) s w (v .whole) (omega (arith, places-length 0 (v .pieces), leb-true (length (places 0 (v .pieces))) (length w) l))) ∙ y in
+        let e : _≡_ {A = Outcome} (said (v .pieces) (v .rest), filled (v .pieces) w) (r, w′) = sym (listed-fits (v .pieces) (v .rest) s w (v .whole) (omega (arith, places-length 0 (v .pieces), leb-true (length (places 0 (v .pieces))) (length w) l))) ∙ y in
         (v, sym (ap (λ (o : Outcome). o .0) e), sym (ap (λ (o : Outcome). o .1) e))
 
   -- a refusal leaves the lent numbers

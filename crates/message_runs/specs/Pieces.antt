@@ -3,7 +3,7 @@ use mathlib.Core.Path.{_≡_}
 use mathlib.Core.Option.{none, some}
 use mathlib.Core.List.{List, [], _∷_, _++_}
 use Prim.Native.Nat.{ℕ, _+_, _<_}
-use lib.ListN.{length}
+use lib.ListN.{length, drop}
 use Rattle.x691.specs.Bits.{bitOf}
 use Rattle.x691.specs.Range.{All}
 use Rattle.atn.specs.Format.{Fmt}
@@ -27,6 +27,10 @@ run (x ∷ xs) = x ++ run xs
 unfoldable pub places : ℕ → List (List ℕ) → List ℕ
 places b [] = []
 places b (x ∷ xs) = b ∷ places (b + length x) xs
+
+-- the places in the lent numbers w; those behind them stay
+abbrev pub filled : List (List ℕ) → List ℕ → List ℕ
+filled xs w = places 0 xs ++ drop (length xs) w
 
 -- a way to cut the run s: into clean messages and a rest that begins with none
 pub record Way (f : Fmt) (s : List ℕ) : Type 0 where
