@@ -8,12 +8,9 @@ use Rattle.atn.specs.Entries.{Reply, Answer, accepted, refused, Outcome, Test, 
 use Rattle.atn.specs.Demands.{passes}
 use Rattle.schema_tables.specs.Nodes.{meaning}
 use Rattle.schema_tables.specs.Tests.{kinds-fit, links-fit, depth-fits}
-use Rattle.schema_tables.specs.Entry.{table-tests, top, cappedAnswer, capped, parse-by-table}
+use Rattle.schema_tables.specs.Entry.{Kept, top, cappedAnswer, capped, parse-by-table}
 
 -- a table that is not refused: its frames are read by its meaning, and nothing else is asked
-abbrev pub Kept : List ℕ → Type 0
-Kept N = passes (table-tests N) ≡ true
-
 pub kept-reads : (N : List ℕ) → Kept N → (s w : List ℕ) → parse-by-table s N w ≡ capped (enter [] (λ f. readFrame (meaning N) f) s w)
 unfolding parse-by-table enter decide passes
 kept-reads N h s w = ap capped (go (frame-fits s) (kinds-fit N) (links-fit N) (depth-fits N) (readFrame (meaning N) s) h)

@@ -15,8 +15,8 @@ use Rattle.atn.proofs.Places.{frame-rising}
 use Rattle.atn.proofs.Longer.{GoesOn, format-goes}
 use Rattle.atn.proofs.Demands.{taken, whole-again, bad-again, cut-to, words-kept, words-left, room-refused, refused-room, reach-inside, refused-inside, lacked-none, lacked-some, longer-on, clean-sound, clean-complete}
 use Rattle.schema_tables.specs.Nodes.{meaning}
-use Rattle.schema_tables.specs.Entry.{top, capped, cappedAnswer, parse-by-table}
-use Rattle.schema_tables.proofs.Capped.{Kept, kept-reads, cap-accepted, cap-refused, cap-words, cap-same, cap-need}
+use Rattle.schema_tables.specs.Entry.{Kept, top, capped, cappedAnswer, parse-by-table}
+use Rattle.schema_tables.proofs.Capped.{kept-reads, cap-accepted, cap-refused, cap-words, cap-same, cap-need}
 use Rattle.schema_tables.proofs.Tame.{table-frank}
 
 module _ (N : List ℕ) (kept : Kept N) where

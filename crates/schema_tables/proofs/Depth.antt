@@ -14,7 +14,7 @@ use Rattle.atn.specs.Demands.{passes}
 use Rattle.atn.proofs.Inverse.{both}
 use Rattle.schema_tables.specs.Nodes.{nodeWord, memberOf, membersFrom, formatOf, formatAt, meaning}
 use Rattle.schema_tables.specs.Tests.{each, kinds-fit, links-fit, firstOf, countOf, firstAt, countAt, within, depth-fits}
-use Rattle.schema_tables.proofs.Capped.{Kept}
+use Rattle.schema_tables.specs.Entry.{Kept}
 
 never : {A : Type 0} → false ≡ true → A
 never p = let z : _≡_ {A = ℕ} 0 1 = cc in absurd (omega arith)

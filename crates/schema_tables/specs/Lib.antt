@@ -2,3 +2,4 @@ pub mod Nodes
 pub mod Tests
 pub mod Entry
 pub mod Arguments
+pub mod Agrees
