@@ -2,7 +2,7 @@
 use mathlib.Core.Path.{_≡_, refl, sym, ap, _∙_}
 use mathlib.Core.Bool.{Bool, true, false}
 use mathlib.Core.List.{List}
-use Prim.Native.Nat.{ℕ}
+use Prim.Native.Nat.{ℕ, _≤_}
 use native.Mathlib.Omega.{arith}
 use Rattle.atn.specs.Reading.{Rec}
 use Rattle.atn.specs.Places.{Rising}
@@ -34,15 +34,26 @@ ends : {r : Answer} {w : List ℕ} {o : Outcome} → Says r w o → CutOrOut o �
 ends {r} x (cut p m k w) = let e : r ≡ Accepted true p m k = says-is x refl .0 in rw e refl
 ends {r} x (ended p l w) = let e : r ≡ Refused 4 p 0 l = says-is x refl .0 in rw e refl
 
--- what is accepted is told as it was read, and its places rise up to the reach
+-- the number of a refusal is one of document 01's, and only 7 needs words
+pub record Numbered (n k : ℕ) : Type 0 where
+  pub least : 1 ≤ n
+  pub most : n ≤ 7
+  pub wordless : (n ≡ 7 → ⊥) → k ≡ 0
+
+-- what is accepted is told as it was read, and its places rise up to the reach; what is refused has its number
 pub record Climbs (F : List ℕ → Reply) (P : List ℕ → List ℕ → Outcome) : Type 0 where
   pub told : (s w : List ℕ) {c : Bool} {p m k : ℕ} {w′ : List ℕ} → P s w ≡ (accepted c p m k, w′) → Settled (F s) w c p m k w′
+  pub numbers : (s w : List ℕ) {n p k l : ℕ} {w′ : List ℕ} → P s w ≡ (refused n p k l, w′) → Numbered n k
   pub rises : (s : List ℕ) {c : Bool} {p m : ℕ} {R : List Rec} → F s ≡ accept c p m R → Rising 0 R p
 
 pub promises : {ts : List Test} (F : List ℕ → Reply) (P : List ℕ → List ℕ → Outcome) → Owes ts F P → Climbs F P → Promises ts F P
 promises F P o u =
     record {
       one = λ s w {r} {q} x y. says-is {r = r} {q = q} x (sym (y .is));
+      numbered = λ s w x.
+          let h = u .numbers s w (sym (x .is)) in
+          (h .least, h .most);
+      needNone = λ s w x n. u .numbers s w (sym (x .is)) .wordless n;
       left = λ s w x. o .left s w (sym (x .is));
       whole = λ s t w v {p} {m} {k} {r} x a y.
           let h = o .whole s t w v (sym (x .is)) a in
@@ -53,9 +64,10 @@ promises F P o u =
       noRoom = λ s w x.
           let h = o .noRoom s w (sym (x .is)) in
           let n = h .2 in
-          (n .cut, n .marks, n .recs, n .replied, n .needs, n .full);
+          (h .0, h .1, n .cut, n .marks, n .recs, n .replied, n .needs, n .full);
       noRoom⁻ = λ s w c p m R {r} l h e n x. says-is {r = r} {q = Refused 7 p (need R) 0} x (o .noRoom⁻ s w c p m R l h e n);
       within = λ s w x. o .within s w (sym (x .is));
+      within⁻ = λ s w x. o .within⁻ s w (sym (x .is));
       lackedNone = λ s w x n. o .lackedNone s w (sym (x .is)) n;
       lackedSome = λ s w x. o .lackedSome s w (sym (x .is));
       longer = λ s t w v x a y. o .longer s t w v (sym (x .is)) a (sym (y .is));
