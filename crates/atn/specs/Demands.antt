@@ -24,7 +24,7 @@ passes (test t n ∷ ts) = t && passes ts
 abbrev pub Agree : (ℕ → ℕ) → (ℕ → ℕ) → ℕ → Type 0
 Agree b c p = (i : ℕ) → i < p → b i ≡ c i
 
--- the first p bits of the frame are the encoding of a message of the format's type, and R are that message's records
+-- the first p bits of the frame are the encoding of a message of the format's type, which is Schema.antt's (proofs/Agreement.antt), and R are that message's records
 pub record Message (f : Fmt) (s : List ℕ) (p : ℕ) (R : List Rec) : Type 0 where
   pub val : Value (typeOf f)
   pub inRange : InRange (typeOf f) val

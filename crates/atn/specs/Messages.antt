@@ -122,7 +122,7 @@ runway t u = seq (num t 1 36 ⨾ num u 0 3 ⨾ end)
 abbrev pub departureClearance : Fmt
 departureClearance = seq (ia5 tag.flight-identification 2 8 ⨾ position ⨾ unread tag.flight-information (unread tag.further-instructions end))
 
--- the arguments by the byte of the lent table
+-- the arguments by the byte of the lent table, from byte 1 on
 abbrev pub arguments : List Fmt
 arguments =
     position
@@ -279,7 +279,7 @@ cmLogonResponse = seq (addressed tag.air-initiated ⨾? applications tag.ground-
 abbrev pub cmAbort : Fmt
 cmAbort = extReason tag.cm-abort-reason 9
 
--- "CM refuses a set choice extension with 5"
+-- "CM refuses a set choice extension with 5"; the third alternative, the contact request, begins with the facility designation, which is not supplied
 abbrev pub cmGround : Fmt
 cmGround = ext (choice tag.cm-ground-pdu (cmLogonResponse ∥ cmLogonResponse ∥ unsupplied ∥ cmLogonRequest ∥ cmAbort ∥ num tag.cm-forward-response 0 2 ∥ none-left)) noReader
 

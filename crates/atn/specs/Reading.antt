@@ -83,7 +83,7 @@ spanned t m at q (suc k) = rec t m q (suc k) at ∷ []
 
 ---------------------------------------------------------------- answers of a reading
 
--- the next place, the records and the marks; the same where a tolerated read has passed the window's end and the reading carried on, behind the bits that the first such read lacked;
+-- the next place, the records and the marks; the same where a tolerated read has passed the window's end and the reading carried on: its first number is the bits that the first such read lacked;
 -- or why it stopped, the bits taken, the records so far and the marks
 pub data Ans : Type 0 where
   ok : ℕ → List Rec → ℕ → Ans
@@ -96,7 +96,8 @@ glue R m (ok p S n) = ok p (R ++ S) (or m n)
 glue R m (past k p S n) = past k p (R ++ S) (or m n)
 glue R m (stop w p S n) = stop w p (R ++ S) (or m n)
 
--- behind the window's end nothing is final: "a 5 or 6 met after a tolerated read has passed the frame's end is 4"; the bits lacked are those of "the first read that passed"
+-- behind the window's end nothing is final: "a 5 or 6 met after a tolerated read has passed the frame's end is 4"; the bits lacked are those of "the first read that passed";
+-- 01 has the rule for the frame, and behind the end of an inner string its messages meet no 5 and no 6
 unfoldable pub tardy : ℕ → Why → Why
 tardy k (out l) = out k
 tardy k bad = out k

@@ -158,18 +158,21 @@ ProviderAbortReason = EXTENSIBLE (ENUMERATED 8)
 abbrev pub StartDownMessage : List ℕ → Asn
 StartDownMessage table = SEQUENCE (ENUMERATED 2 &? ProtectedMessage table & END)
 
+-- user abort, provider abort, start, send
 abbrev pub AircraftPDUs : List ℕ → Asn
 AircraftPDUs down = EXTENSIBLE (CHOICE (UserAbortReason ∣ ProviderAbortReason ∣ StartDownMessage down ∣ ProtectedMessage down ∣ NONE))
 
 abbrev pub ForwardHeader : Asn
 ForwardHeader = SEQUENCE (DateTimeGroup & IA5String 2 8 & BitString 24 24 & END)
 
+-- header, then uplink or downlink elements
 abbrev pub ForwardMessage : List ℕ → List ℕ → Asn
 ForwardMessage down up = SEQUENCE (ForwardHeader & CHOICE (CONTAINING (MessageData up) ∣ CONTAINING (MessageData down) ∣ NONE) & END)
 
 abbrev pub ForwardResponse : Asn
 ForwardResponse = EXTENSIBLE (ENUMERATED 3)
 
+-- user abort, provider abort, start, send, forward, forward response
 abbrev pub GroundPDUs : List ℕ → List ℕ → Asn
 GroundPDUs down up =
     EXTENSIBLE (CHOICE (UserAbortReason ∣ ProviderAbortReason ∣ ProtectedMessage up ∣ ProtectedMessage up ∣ ForwardMessage down up ∣ ForwardResponse ∣ NONE))
@@ -203,9 +206,11 @@ CMLogonResponse = SEQUENCE (SEQUENCE-OF 1 256 AEQualifierVersionAddress &? SEQUE
 abbrev pub CMAbortReason : Asn
 CMAbortReason = EXTENSIBLE (ENUMERATED 10)
 
+-- logon response, update, contact request, forward request, abort, forward response; the contact request begins with the facility designation, which is not supplied
 abbrev pub CMGroundMessage : Asn
 CMGroundMessage = EXTENSIBLE (CHOICE (CMLogonResponse ∣ CMLogonResponse ∣ UNLISTED ∣ CMLogonRequest ∣ CMAbortReason ∣ ENUMERATED 3 ∣ NONE))
 
+-- logon request, contact response, abort
 abbrev pub CMAircraftMessage : Asn
 CMAircraftMessage = EXTENSIBLE (CHOICE (CMLogonRequest ∣ ENUMERATED 2 ∣ CMAbortReason ∣ NONE))
 
@@ -222,6 +227,6 @@ Release = EXTENSIBLE (SEQUENCE (ReleaseReason &? END))
 abbrev pub Abort : Asn
 Abort = EXTENSIBLE (SEQUENCE (EXTENSIBLE (INTEGER 0 1) & EXTENSIBLE (ENUMERATED 6) &? END))
 
--- the bodies of AARQ and AARE are not read
+-- AARQ, AARE, release request, release response, abort; the bodies of AARQ and AARE are not read
 abbrev pub ACSE-apdu : Asn
 ACSE-apdu = EXTENSIBLE (CHOICE (UNLISTED ∣ UNLISTED ∣ Release ∣ Release ∣ Abort ∣ NONE))

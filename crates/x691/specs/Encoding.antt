@@ -1,4 +1,4 @@
--- The unaligned basic encoding of X.691, a clause beside each part. Clause numbers are those of the edition of 2002, which the source cites.
+-- The unaligned basic encoding of X.691, a clause beside each part. Clause numbers are those of the edition of 2002; the source uses the same and names no edition.
 use mathlib.Core.Bool.{Bool, true, false, cond}
 use mathlib.Core.Option.{Option, none, some}
 use mathlib.Core.Logic.{_⊎_, inl, inr}
@@ -10,7 +10,7 @@ use Rattle.x691.specs.Bits.{bitsOf}
 use Rattle.x691.specs.Types.{Asn, NULL, UNLISTED, INTEGER, ONE-OF, STRING, ANY-STRING, EXTENSIBLE, SEQUENCE, CHOICE, SEQUENCE-OF, CONTAINING}
 use Rattle.x691.specs.Types.{Members, END, _&_, _&?_, Alternatives, NONE, _∣_, extent, Value, Values, Pick}
 
--- the fewest bits that hold d: 0 for 0 (10.5.3, 10.5.7.1)
+-- the fewest bits that hold d: 0 for 0 (10.5.4, 10.5.6)
 unfoldable pub widthIn : ℕ → ℕ → ℕ
 widthIn zero d = 0
 widthIn (suc k) d = elim (eqb d 0) [ true ↦ 0 | false ↦ suc (widthIn k (d / 2)) ]
@@ -72,13 +72,13 @@ unfoldable mutual
   -- a constrained whole number: what it exceeds the lowest by, in the fewest bits for the range (10.5.6, 12.2.2)
   encode (INTEGER lo hi) v = bitsOf (width (extent lo hi)) v
   encode (ONE-OF hi xs) v = bitsOf (width hi) v
-  -- a length, where the size varies, and the units (15.10, 16.7, 27.5.7)
+  -- a length, where the size varies, and the units (15.10, 15.11, 16.7, 16.8, 27.5.7)
   encode (STRING n lo hi) cs = sizeBits lo hi (length cs) ++ unitBits n cs
   -- a length determinant and the units (15.11, 16.8)
   encode (ANY-STRING n) cs = lengthBits (length cs) ++ unitBits n cs
   -- the extension bit, 0 for a value of the root (12.1, 13.3, 18.1, 22.5)
   encode (EXTENSIBLE t) v = 0 ∷ encode t v
-  -- the preamble, then the members in order (18.2, 18.5)
+  -- the preamble, then the members in order (18.2, 18.4)
   encode (SEQUENCE ms) vs = preamble ms vs ++ encodeMembers ms vs
   -- the index of the alternative, a number from 0 to the highest, then its value (22.6, 22.7)
   encode (CHOICE ts) c = bitsOf (width (highest ts)) (index ts c) ++ encodePick ts c

@@ -27,13 +27,13 @@ mutual
     CHOICE : Alternatives → Asn
     -- SEQUENCE (SIZE (lo..hi)) OF
     SEQUENCE-OF : ℕ → ℕ → Asn → Asn
-    -- BIT STRING that contains an encoding and nothing else
+    -- BIT STRING that contains an encoding and nothing else: its bits, not padded to octets
     CONTAINING : Asn → Asn
 
   pub data Members : Type 0 where
     END : Members
     _&_ : Asn → Members → Members
-    -- OPTIONAL or DEFAULT
+    -- OPTIONAL or DEFAULT; document 01 lets a default stand written out, which X.691 drops (18.5)
     _&?_ : Asn → Members → Members
 
   pub data Alternatives : Type 0 where
