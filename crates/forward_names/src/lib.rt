@@ -13,6 +13,7 @@ use cursor::place::Cursor;
 use cursor::place::bits;
 use forward_headers::read_header;
 use lent_tables::tables_fit;
+use per::units::Octets;
 use tell::tell_text;
 use verdicts::Verdict;
 
@@ -75,7 +76,7 @@ fn clean_name(frame: &[u8], reach: usize) -> Named
     // behind the extension bit, which is clear where the frame is clean
     let behind = Cursor {
         at: 1,
-        end: frame.len() * 8,
+        end: Octets(frame.len()).bits().0,
         why: 0,
         marks: 0,
     };

@@ -11,6 +11,7 @@ use answers::Answer;
 use answers::accepted;
 use answers::refused;
 use cursor::place::Cursor;
+use per::units::Octets;
 use schema_leaves::Step;
 use schema_nodes::refusal::refusal;
 use schema_walk::walk::read_node;
@@ -45,7 +46,7 @@ fn answer(frame: &[u8], nodes: &[u64], words: &mut [u64]) -> Answer
 {
     let start = Cursor {
         at: 0,
-        end: frame.len() * 8,
+        end: Octets(frame.len()).bits().0,
         why: 0,
         marks: 0,
     };
