@@ -5,8 +5,8 @@ mod frames; // frames.rt: a frame by its number
 mod runs; // runs.rt: frames with the same answer
 
 fn main() {
-    each_length(entries::CM_GROUND);
-    each_length(entries::CM_LOGON);
+    each_length(entries::CM_FROM_GROUND);
+    each_length(entries::CM_FROM_AIRCRAFT);
     each_length(entries::ACSE);
 }
 

@@ -1,12 +1,12 @@
 // The frames. Behind each what its bits are.
 use super::entries::acse;
-use super::entries::cm_ground;
-use super::entries::cm_logon;
+use super::entries::cm_from_aircraft;
+use super::entries::cm_from_ground;
 
 // The empty frame, every entry.
 pub fn empty() {
-    cm_ground(&[]);
-    cm_logon(&[]);
+    cm_from_ground(&[]);
+    cm_from_aircraft(&[]);
     acse(&[]);
 }
 
@@ -18,9 +18,9 @@ pub fn acse_messages() {
 }
 
 pub fn cm_messages() {
-    cm_logon(&[0x40]); // 0 10 0 0000: abort, reason 0
-    cm_logon(&[0x4A]); // 0 10 0 1010: abort, reason 10
-    cm_logon(&[0x80]); // 1: an extension
-    cm_ground(&[0x80]); // 1: an extension
-    cm_ground(&[0x20]); // 0 010: a contact request, whose facility designation is not supplied
+    cm_from_aircraft(&[0x40]); // 0 10 0 0000: abort, reason 0
+    cm_from_aircraft(&[0x4A]); // 0 10 0 1010: abort, reason 10
+    cm_from_aircraft(&[0x80]); // 1: an extension
+    cm_from_ground(&[0x80]); // 1: an extension
+    cm_from_ground(&[0x20]); // 0 010: a contact request, whose facility designation is not supplied
 }

@@ -3,13 +3,13 @@ use acse::parse_acse_apdu;
 use cm::parse_cm;
 use listing::print_case;
 
-pub fn cm_ground(frame: &[u8]) {
+pub fn cm_from_ground(frame: &[u8]) {
     let mut words = [0u64; 160];
     let answer = parse_cm(frame, 1, &mut words);
     print_case(b"cm 1", frame, &words, answer);
 }
 
-pub fn cm_logon(frame: &[u8]) {
+pub fn cm_from_aircraft(frame: &[u8]) {
     let mut words = [0u64; 160];
     let answer = parse_cm(frame, 0, &mut words);
     print_case(b"cm 0", frame, &words, answer);

@@ -34,12 +34,12 @@ pub fn too_long() {
         &words,
         ground,
     );
-    let logon = parse_cm(&frame, 0, &mut words);
+    let aircraft = parse_cm(&frame, 0, &mut words);
     print_case(
         b"cm 0, 65537 bytes that begin with",
         &frame[..1],
         &words,
-        logon,
+        aircraft,
     );
     let association = parse_acse_apdu(&frame, &mut words);
     print_case(
@@ -53,7 +53,7 @@ pub fn too_long() {
 // Four words are lent: a record has five.
 pub fn no_room() {
     acse_in_four(&[0x80]);
-    cm_logon_in_four(&[0x40]);
+    cm_from_aircraft_in_four(&[0x40]);
 }
 
 fn acse_in_four(frame: &[u8]) {
@@ -62,7 +62,7 @@ fn acse_in_four(frame: &[u8]) {
     print_case(b"acse, four words,", frame, &words, answer);
 }
 
-fn cm_logon_in_four(frame: &[u8]) {
+fn cm_from_aircraft_in_four(frame: &[u8]) {
     let mut words = [0u64; 160];
     let answer = parse_cm(frame, 0, &mut words[..4]);
     print_case(b"cm 0, four words,", frame, &words, answer);
