@@ -5,7 +5,6 @@ use Prim.Native.Nat.{ℕ, zero, suc, _+_, _/_, _%_, _^_, _<_}
 use native.Mathlib.Numerals.{add-one}
 use native.Mathlib.Nat.{add-zero}
 use native.Mathlib.Omega.{arith}
-use Rattle.x691.specs.Types.{extent}
 use Rattle.x691.specs.Bits.{bitOf}
 use Rattle.x691.specs.Encoding.{width, widthIn, count}
 use Rattle.x691.specs.Encoding as encoding
@@ -49,7 +48,7 @@ module _ {k j : ℕ} {s : List ℕ} {c : Cursor} (g : Got) (p : Pulls s c 2 g) w
         }
 
     pub form-one : g .v ≡ 1 → (a : Got) → Ranged j s (g .c) a → (b : Got) → Ranged rows.hundredths s (a .c) b → Forms k j s c (record { form = record { form = 1; first = a .v; second = b .v; third = 0 }; c = b .c })
-    unfolding readChoice flags allRead lowest highest extent width widthIn encoding.highest count
+    unfolding readChoice flags allRead width widthIn encoding.highest count
     form-one z a h b m =
         let index = pull-along p in
         let degrees = number-along j index h in
@@ -62,7 +61,7 @@ module _ {k j : ℕ} {s : List ℕ} {c : Cursor} (g : Got) (p : Pulls s c 2 g) w
 
     pub form-two : g .v ≡ 2 → (a : Got) → Ranged j s (g .c) a → (b : Got) → Ranged rows.minutes s (a .c) b → (e : Got) → Ranged rows.minutes s (b .c) e
         → Forms k j s c (record { form = record { form = 2; first = a .v; second = b .v; third = e .v }; c = e .c })
-    unfolding readChoice flags allRead lowest highest extent width widthIn encoding.highest count
+    unfolding readChoice flags allRead width widthIn encoding.highest count
     form-two z a h b m e l =
         let index = pull-along p in
         let degrees = number-along j index h in

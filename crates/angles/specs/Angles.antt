@@ -39,19 +39,19 @@ angle t k j = seq (form t k j ⨾ num (t + 6) (lowest rows.side) (highest rows.s
 abbrev pub bits : ℕ → ℕ
 bits k = width (extent (lowest k) (highest k))
 
--- The records of an angle whose form starts at p, each behind the bits of the one before: the form takes 2, the thousandths w, the degrees d, the hundredths 13, the minutes and the seconds 6 each. A place is a word.
+-- The records of an angle whose form starts at p, each behind the bits of the one before: the form takes 2, the thousandths w, the degrees d. A place is a word.
 abbrev pub numbers : ℕ → ℕ → ℕ → ℕ → Form → ℕ → List Rec
 numbers zero d t p v n = rec (t + 1) n (v .first) 0 (word (p + 2)) ∷ []
 numbers (suc zero) d t p v n = rec (t + 2) n (v .first) 0 (word (p + 2)) ∷ rec (t + 3) n (v .second) 0 (word (p + (2 + d))) ∷ []
-numbers (suc (suc f)) d t p v n = rec (t + 2) n (v .first) 0 (word (p + 2)) ∷ rec (t + 4) n (v .second) 0 (word (p + (2 + d))) ∷ rec (t + 5) n (v .third) 0 (word (p + (2 + d + 6))) ∷ []
+numbers (suc (suc f)) d t p v n = rec (t + 2) n (v .first) 0 (word (p + 2)) ∷ rec (t + 4) n (v .second) 0 (word (p + (2 + d))) ∷ rec (t + 5) n (v .third) 0 (word (p + (2 + d + bits rows.minutes))) ∷ []
 
 abbrev pub formRecs : ℕ → ℕ → ℕ → Form → ℕ → List Rec
 formRecs d t p v n = rec t n (v .form) 0 p ∷ numbers (v .form) d t p v n
 
 abbrev pub sidePlace : ℕ → ℕ → ℕ → ℕ → ℕ
 sidePlace zero w d p = word (p + (2 + w))
-sidePlace (suc zero) w d p = word (p + (2 + d + 13))
-sidePlace (suc (suc f)) w d p = word (p + (2 + d + 6 + 6))
+sidePlace (suc zero) w d p = word (p + (2 + d + bits rows.hundredths))
+sidePlace (suc (suc f)) w d p = word (p + (2 + d + bits rows.minutes + bits rows.minutes))
 
 unfoldable pub angleRecs : ℕ → ℕ → ℕ → Angle → ℕ → List Rec
 angleRecs w d t v n = formRecs d t (v .at) (v .form) n ++ (rec (t + 6) n (v .side) 0 (sidePlace (v .form .form) w d (v .at)) ∷ [])
@@ -61,9 +61,8 @@ abbrev pub unlessAbsent : ℕ → List Rec → List Rec
 unlessAbsent zero R = []
 unlessAbsent (suc h) R = R
 
--- the thousandths of a latitude take 17 bits and its degrees 7, those of a longitude 18 and 8
 unfoldable pub pairRecs : Pair → ℕ → List Rec
-pairRecs v n = rec 34 n 0 0 (v .at) ∷ (unlessAbsent (v .latitude .has) (angleRecs 17 7 35 (v .latitude .angle) n) ++ unlessAbsent (v .longitude .has) (angleRecs 18 8 42 (v .longitude .angle) n))
+pairRecs v n = rec 34 n 0 0 (v .at) ∷ (unlessAbsent (v .latitude .has) (angleRecs (bits rows.latitude-thousandths) (bits rows.latitude-degrees) 35 (v .latitude .angle) n) ++ unlessAbsent (v .longitude .has) (angleRecs (bits rows.longitude-thousandths) (bits rows.longitude-degrees) 42 (v .longitude .angle) n))
 
 abbrev pub maybePairRecs : MaybePair → ℕ → List Rec
 maybePairRecs v n = unlessAbsent (v .has) (pairRecs (v .pair) n)

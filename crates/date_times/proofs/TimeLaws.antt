@@ -10,7 +10,7 @@ use Rattle.cursor.specs.declared.place.Cursor.{Cursor}
 use Rattle.cursor.specs.declared.place.Got.{Got}
 use Rattle.cursor.specs.Place.{put, Inside, Pulls}
 use Rattle.records.specs.Told.{Told}
-use Rattle.records.proofs.Telling.{told-then}
+use Rattle.records.proofs.Telling.{told-then, place-behind}
 use Rattle.field_ranges.specs.Rows as rows
 use Rattle.field_ranges.specs.Ranges.{rowAt}
 use Rattle.field_ranges.specs.Ends.{lowest, highest}
@@ -20,7 +20,7 @@ use Rattle.ranged_numbers.proofs.Split.{Stands, pull-went, stands-first, stands
 use Rattle.ranged_numbers.proofs.Places.{takes-told, along-here, number-back, number-along, along-place}
 use Rattle.date_times.specs.declared.DateTime.{DateTime}
 use Rattle.date_times.specs.declared.DateTimeAt.{DateTimeAt}
-use Rattle.date_times.specs.Times.{DateTimes, dateTimeRecs}
+use Rattle.date_times.specs.Times.{bits, DateTimes, dateTimeRecs}
 
 abbrev time : Cursor → Got → Got → Got → Got → Got → Got → DateTimeAt
 time c year month day hours minutes seconds =
@@ -97,7 +97,12 @@ at-once {s} {c} {first} {second} year month day hours minutes seconds p h q k y 
 pub told-time : {w w₁ w₂ w₃ w₄ w₅ w₆ : List ℕ} {n n₁ n₂ n₃ n₄ n₅ n₆ : ℕ} {v : DateTime} {b d e f g : ℕ}
     → Told 1 w w₁ n n₁ (rec 11 0 (v .year) 0 (v .at) ∷ []) → Told 1 w₁ w₂ n₁ n₂ (rec 12 0 (v .month) 0 b ∷ []) → Told 1 w₂ w₃ n₂ n₃ (rec 13 0 (v .day) 0 d ∷ [])
     → Told 1 w₃ w₄ n₃ n₄ (rec 14 0 (v .hours) 0 e ∷ []) → Told 1 w₄ w₅ n₄ n₅ (rec 15 0 (v .minutes) 0 f ∷ []) → Told 1 w₅ w₆ n₅ n₆ (rec 16 0 (v .seconds) 0 g ∷ [])
-    → b ≡ (v .at + 7) % 2 ^ 64 → d ≡ (v .at + 11) % 2 ^ 64 → e ≡ (v .at + 16) % 2 ^ 64 → f ≡ (v .at + 21) % 2 ^ 64 → g ≡ (v .at + 27) % 2 ^ 64
+    → b ≡ (v .at + bits rows.year) % 2 ^ 64 → d ≡ (b + bits rows.month) % 2 ^ 64 → e ≡ (d + bits rows.day) % 2 ^ 64 → f ≡ (e + bits rows.hours) % 2 ^ 64 → g ≡ (f + bits rows.minutes) % 2 ^ 64
     → Told 6 w w₆ n n₆ (dateTimeRecs v 0)
 unfolding word
-told-time a b d e f g p₁ p₂ p₃ p₄ p₅ = told-then (told-then (told-then (told-then (told-then a (rw p₁ at b)) (rw p₂ at d)) (rw p₃ at e)) (rw p₄ at f)) (rw p₅ at g)
+told-time {v = v} year month day hours minutes seconds p₁ p₂ p₃ p₄ p₅ =
+    let q₂ = place-behind (v .at) (bits rows.year) (bits rows.month) p₁ p₂ in
+    let q₃ = place-behind (v .at) (bits rows.year + bits rows.month) (bits rows.day) q₂ p₃ in
+    let q₄ = place-behind (v .at) (bits rows.year + bits rows.month + bits rows.day) (bits rows.hours) q₃ p₄ in
+    let q₅ = place-behind (v .at) (bits rows.year + bits rows.month + bits rows.day + bits rows.hours) (bits rows.minutes) q₄ p₅ in
+    told-then (told-then (told-then (told-then (told-then year (rw p₁ at month)) (rw q₂ at day)) (rw q₃ at hours)) (rw q₄ at minutes)) (rw q₅ at seconds)

@@ -64,7 +64,7 @@ pub fn read_date_time(s: &[u8], c: Cursor) -> DateTimeAt
     one_by_one(s, c)
 }
 
-// It stands outside the elements. The room is asked for once.
+// It stands outside the elements. The room is asked for once. Each number stands behind the width of the one before.
 pub fn tell_date_time(words: &mut [u64], n: usize, x: DateTime) -> usize
     requires { ⌜ n < 2 ^ 31 ⌝ }
     ensures { λ m. ⌜ Told 6 (now (words .entry)) (now (words .exit)) n m (dateTimeRecs x 0) ⌝ }
@@ -74,14 +74,14 @@ pub fn tell_date_time(words: &mut [u64], n: usize, x: DateTime) -> usize
     }
     let at = x.at;
     let a = store(words, n, 11, 0, x.year, 0, at);
-    let month_at = std::num::wrapping_add_usize(at, 7);
+    let month_at = std::num::wrapping_add_usize(at, YEAR.width());
     let b = store(words, a, 12, 0, x.month, 0, month_at);
-    let day_at = std::num::wrapping_add_usize(at, 11);
+    let day_at = std::num::wrapping_add_usize(month_at, MONTH.width());
     let d = store(words, b, 13, 0, x.day, 0, day_at);
-    let hours_at = std::num::wrapping_add_usize(at, 16);
+    let hours_at = std::num::wrapping_add_usize(day_at, DAY.width());
     let e = store(words, d, 14, 0, x.hours, 0, hours_at);
-    let minutes_at = std::num::wrapping_add_usize(at, 21);
+    let minutes_at = std::num::wrapping_add_usize(hours_at, HOURS.width());
     let f = store(words, e, 15, 0, x.minutes, 0, minutes_at);
-    let seconds_at = std::num::wrapping_add_usize(at, 27);
+    let seconds_at = std::num::wrapping_add_usize(minutes_at, MINUTES.width());
     store(words, f, 16, 0, x.seconds, 0, seconds_at)
 }

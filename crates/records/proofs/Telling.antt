@@ -1,7 +1,7 @@
 -- How what is told goes together, over any records.
 use mathlib.Core.Path.{_≡_, _∙_, refl, sym, ap}
 use mathlib.Core.List.{List, [], _∷_, _++_, append-assoc, append-nil}
-use Prim.Native.Nat.{ℕ, suc, _+_, _^_, _≤_, _<_}
+use Prim.Native.Nat.{ℕ, suc, _+_, _%_, _^_, _≤_, _<_}
 use native.Mathlib.Nat.{add-zero}
 use native.Mathlib.Omega.{arith}
 use lib.ListN.{length, take, length-append}
@@ -72,3 +72,7 @@ pub room-behind : {j m m′ : ℕ} {w w′ : List ℕ} {r : Rec} → Room (suc j
 room-behind {j} {m} {m′} r t =
     let e : m′ + j ≡ m + suc j = omega (arith, t .count) in
     record { few = rw e (r .few); enough = rw e (omega (arith, r .enough, t .room)) }
+
+-- a place k bits behind one that is m bits behind b: each is a word
+pub place-behind : (b m k : ℕ) {p q : ℕ} → p ≡ (b + m) % 2 ^ 64 → q ≡ (p + k) % 2 ^ 64 → q ≡ (b + (m + k)) % 2 ^ 64
+place-behind b m k h i = omega arith

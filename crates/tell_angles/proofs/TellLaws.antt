@@ -5,9 +5,10 @@ use Prim.Native.Nat.{ℕ, zero, suc, _+_, _%_, _^_}
 use native.Mathlib.Omega.{arith}
 use Rattle.atn.specs.Reading.{Rec, rec, word}
 use Rattle.records.specs.Told.{Told}
-use Rattle.records.proofs.Telling.{told-none, told-then, told-within}
+use Rattle.records.proofs.Telling.{told-none, told-then, told-within, place-behind}
 use Rattle.angles.specs.declared.Angle.{Angle}
-use Rattle.angles.specs.Angles.{numbers, sidePlace, angleRecs, unlessAbsent}
+use Rattle.field_ranges.specs.Rows as rows
+use Rattle.angles.specs.Angles.{bits, numbers, sidePlace, angleRecs, unlessAbsent}
 
 pub told-present : {k : ℕ} {w w′ : List ℕ} {n m : ℕ} {R : List Rec} (has : ℕ) → (has ≡ 0 → ⊥) → Told k w w′ n m R → Told k w w′ n m (unlessAbsent has R)
 told-present zero h p = absurd (h refl)
@@ -18,10 +19,6 @@ told-absent {k} zero R h = told-within k (omega arith) told-none
 told-absent (suc has) R h = absurd (omega arith)
 
 ---------------------------------------------------------------- the forms of an angle
-
--- a sum that wraps, and then another
-wraps : (b m k : ℕ) {p q : ℕ} → p ≡ (b + m) % 2 ^ 64 → q ≡ (p + k) % 2 ^ 64 → q ≡ (b + (m + k)) % 2 ^ 64
-wraps b m k h i = omega arith
 
 module _ (a d t e : ℕ) (v : Angle) where
   -- what is told behind the form
@@ -39,22 +36,22 @@ module _ (a d t e : ℕ) (v : Angle) where
         → Told 5 w w₃ n n₃ (angleRecs a d t v e)
     unfolding angleRecs word
     told-thousandths h first q₂ side =
-        told-within {j = 3} 5 (omega arith) (rw h (told-then (rw h at form) (told-then (rw q₁ at first) (rw (wraps (v .at) 2 a q₁ q₂) at side))))
+        told-within {j = 3} 5 (omega arith) (rw h (told-then (rw h at form) (told-then (rw q₁ at first) (rw (place-behind (v .at) 2 a q₁ q₂) at side))))
 
     module _ (first : Told 1 w₁ w₂ n₁ n₂ (rec (t + 2) e (v .form .first) 0 p₁ ∷ [])) (q₂ : p₂ ≡ (p₁ + d) % 2 ^ 64) where
-      pub told-hundredths : {w₄ : List ℕ} {n₄ p₃ : ℕ} → v .form .form ≡ 1 → Told 1 w₂ w₃ n₂ n₃ (rec (t + 3) e (v .form .second) 0 p₂ ∷ []) → p₃ ≡ (p₂ + 13) % 2 ^ 64 → Told 1 w₃ w₄ n₃ n₄ (rec (t + 6) e (v .side) 0 p₃ ∷ [])
+      pub told-hundredths : {w₄ : List ℕ} {n₄ p₃ : ℕ} → v .form .form ≡ 1 → Told 1 w₂ w₃ n₂ n₃ (rec (t + 3) e (v .form .second) 0 p₂ ∷ []) → p₃ ≡ (p₂ + bits rows.hundredths) % 2 ^ 64 → Told 1 w₃ w₄ n₃ n₄ (rec (t + 6) e (v .side) 0 p₃ ∷ [])
           → Told 5 w w₄ n n₄ (angleRecs a d t v e)
       unfolding angleRecs word
       told-hundredths h second q₃ side =
-          let r = wraps (v .at) 2 d q₁ q₂ in
-          let s = wraps (v .at) (2 + d) 13 r q₃ in
+          let r = place-behind (v .at) 2 d q₁ q₂ in
+          let s = place-behind (v .at) (2 + d) (bits rows.hundredths) r q₃ in
           told-within {j = 4} 5 (omega arith) (rw h (told-then (rw h at form) (told-then (rw q₁ at first) (told-then (rw r at second) (rw s at side)))))
 
-      pub told-seconds : {w₄ w₅ : List ℕ} {n₄ n₅ p₃ p₄ : ℕ} → (v .form .form ≡ 0 → ⊥) → (v .form .form ≡ 1 → ⊥) → Told 1 w₂ w₃ n₂ n₃ (rec (t + 4) e (v .form .second) 0 p₂ ∷ []) → p₃ ≡ (p₂ + 6) % 2 ^ 64 → Told 1 w₃ w₄ n₃ n₄ (rec (t + 5) e (v .form .third) 0 p₃ ∷ [])
-          → p₄ ≡ (p₃ + 6) % 2 ^ 64 → Told 1 w₄ w₅ n₄ n₅ (rec (t + 6) e (v .side) 0 p₄ ∷ []) → Told 5 w w₅ n n₅ (angleRecs a d t v e)
+      pub told-seconds : {w₄ w₅ : List ℕ} {n₄ n₅ p₃ p₄ : ℕ} → (v .form .form ≡ 0 → ⊥) → (v .form .form ≡ 1 → ⊥) → Told 1 w₂ w₃ n₂ n₃ (rec (t + 4) e (v .form .second) 0 p₂ ∷ []) → p₃ ≡ (p₂ + bits rows.minutes) % 2 ^ 64 → Told 1 w₃ w₄ n₃ n₄ (rec (t + 5) e (v .form .third) 0 p₃ ∷ [])
+          → p₄ ≡ (p₃ + bits rows.minutes) % 2 ^ 64 → Told 1 w₄ w₅ n₄ n₅ (rec (t + 6) e (v .side) 0 p₄ ∷ []) → Told 5 w w₅ n n₅ (angleRecs a d t v e)
       unfolding angleRecs word
       told-seconds h i second q₃ third q₄ side =
-          let r = wraps (v .at) 2 d q₁ q₂ in
-          let r₃ = wraps (v .at) (2 + d) 6 r q₃ in
-          let s = wraps (v .at) (2 + d + 6) 6 r₃ q₄ in
+          let r = place-behind (v .at) 2 d q₁ q₂ in
+          let r₃ = place-behind (v .at) (2 + d) (bits rows.minutes) r q₃ in
+          let s = place-behind (v .at) (2 + d + bits rows.minutes) (bits rows.minutes) r₃ q₄ in
           rw (seconds-behind (v .form .form) h i) (told-then form (told-then (rw q₁ at first) (told-then (rw r at second) (told-then (rw r₃ at third) (rw s at side)))))

@@ -6,9 +6,15 @@ use angles::Angle;
 use angles::MaybeAngle;
 use angles::MaybePair;
 use angles::Pair;
+use field_ranges::table::HUNDREDTHS;
+use field_ranges::table::LATITUDE_DEGREES;
+use field_ranges::table::LATITUDE_THOUSANDTHS;
+use field_ranges::table::LONGITUDE_DEGREES;
+use field_ranges::table::LONGITUDE_THOUSANDTHS;
+use field_ranges::table::MINUTES;
 use records::emit;
 
-// The seven tags of an angle follow one another, from `tag` on, and so do its places: the form takes 2 bits, `thousandths` and `degrees` say what those take, the hundredths take 13, the minutes and the seconds 6 each.
+// The seven tags of an angle follow one another, from `tag` on, and so do its places: the form takes 2 bits, `thousandths` and `degrees` say what those take, and the others take the widths of their ranges.
 fn tell_angle(
     words: &mut [u64],
     n: usize,
@@ -33,13 +39,13 @@ fn tell_angle(
     let second_at = std::num::wrapping_add_usize(first_at, degrees);
     if form.form == 1 {
         let b = emit(words, a, tag + 3, element, form.second, 0, second_at);
-        let side_at = std::num::wrapping_add_usize(second_at, 13);
+        let side_at = std::num::wrapping_add_usize(second_at, HUNDREDTHS.width());
         return emit(words, b, tag + 6, element, x.side, 0, side_at);
     }
     let b = emit(words, a, tag + 4, element, form.second, 0, second_at);
-    let third_at = std::num::wrapping_add_usize(second_at, 6);
+    let third_at = std::num::wrapping_add_usize(second_at, MINUTES.width());
     let d = emit(words, b, tag + 5, element, form.third, 0, third_at);
-    let side_at = std::num::wrapping_add_usize(third_at, 6);
+    let side_at = std::num::wrapping_add_usize(third_at, MINUTES.width());
     emit(words, d, tag + 6, element, x.side, 0, side_at)
 }
 
@@ -69,8 +75,24 @@ pub fn tell_pair(words: &mut [u64], n: usize, element: u64, x: Pair) -> usize
     let latitude = x.latitude;
     let longitude = x.longitude;
     let a = emit(words, n, 34, element, 0, 0, x.at);
-    let b = tell_maybe_angle(words, a, element, 35, 17, 7, latitude);
-    tell_maybe_angle(words, b, element, 42, 18, 8, longitude)
+    let b = tell_maybe_angle(
+        words,
+        a,
+        element,
+        35,
+        LATITUDE_THOUSANDTHS.width(),
+        LATITUDE_DEGREES.width(),
+        latitude,
+    );
+    tell_maybe_angle(
+        words,
+        b,
+        element,
+        42,
+        LONGITUDE_THOUSANDTHS.width(),
+        LONGITUDE_DEGREES.width(),
+        longitude,
+    )
 }
 
 pub fn tell_maybe_pair(words: &mut [u64], n: usize, element: u64, x: MaybePair) -> usize
