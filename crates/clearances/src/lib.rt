@@ -11,6 +11,8 @@ ghost use Rattle.cursor.specs.Place.{put, Inside};
 ghost use Rattle.runs.specs.Runs.{Runs};
 ghost use Rattle.clearances.specs.Clearance.{Rest, routeFields, clearanceFields};
 ghost use Rattle.optional_parts.specs.Parts.{Optional, Fields};
+use cpdlc_tags::ADDITIONAL;
+use cpdlc_tags::CLEARANCE;
 use cursor::place::Cursor;
 use cursor::place::bits;
 use cursor::place::mark;
@@ -57,7 +59,7 @@ fn read_clipped(s: &[u8], words: &mut [u64], n: usize, c: Cursor, place: u64) ->
     let flags = rest(s, c);
     if flags == 0 {
         let d = at_end(c, 7);
-        let m = emit(words, n, 80, 0, place, 0, c.at);
+        let m = emit(words, n, CLEARANCE, 0, place, 0, c.at);
         return At { n: m, c: d };
     }
     let d = at_end(c, 20);
@@ -89,7 +91,7 @@ fn read_route(s: &[u8], words: &mut [u64], n: usize, c: Cursor, v: u64) -> At
         return legs;
     }
     let e = mark(d, 8);
-    let m = emit(words, k, 102, 0, 1, 0, d.at);
+    let m = emit(words, k, ADDITIONAL, 0, 1, 0, d.at);
     At { n: m, c: e }
 }
 
@@ -110,7 +112,7 @@ pub fn read_route_clearance(s: &[u8], words: &mut [u64], n: usize, c: Cursor, pl
     let flags = bits(s, c, 9);
     let d = flags.c;
     if d.why == 0 {
-        let m = emit(words, n, 80, 0, place, 0, c.at);
+        let m = emit(words, n, CLEARANCE, 0, place, 0, c.at);
         // the unread part is known to be there from its bit on
         let e = mark(d, flags.v % 2 * 8);
         return read_fields(s, words, m, e, flags.v);

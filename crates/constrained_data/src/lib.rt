@@ -9,6 +9,7 @@ ghost use Rattle.constrained_data.specs.Clears.{Clears};
 use clearance_attempts::excuse;
 use clearance_attempts::try_clearance;
 use clearance_count::read_count;
+use cpdlc_tags::CLEARANCE;
 use cursor::place::Cursor;
 use records::emit;
 use runs::At;
@@ -31,7 +32,7 @@ fn read_clearances(s: &[u8], words: &mut [u64], n: usize, c: Cursor, count: u64)
         return try_clearance(s, words, k, d, 2);
     }
     if d.why == 7 {
-        let m = emit(words, k, 80, 0, 2, 0, d.at);
+        let m = emit(words, k, CLEARANCE, 0, 2, 0, d.at);
         return At { n: m, c: d };
     }
     first

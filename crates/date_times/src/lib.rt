@@ -73,15 +73,15 @@ pub fn tell_date_time(words: &mut [u64], n: usize, x: DateTime) -> usize
         return n + 6;
     }
     let at = x.at;
-    let a = store(words, n, 11, 0, x.year, 0, at);
+    let a = store(words, n, cpdlc_tags::YEAR, 0, x.year, 0, at);
     let month_at = std::num::wrapping_add_usize(at, YEAR.width());
-    let b = store(words, a, 12, 0, x.month, 0, month_at);
+    let b = store(words, a, cpdlc_tags::MONTH, 0, x.month, 0, month_at);
     let day_at = std::num::wrapping_add_usize(month_at, MONTH.width());
-    let d = store(words, b, 13, 0, x.day, 0, day_at);
+    let d = store(words, b, cpdlc_tags::DAY, 0, x.day, 0, day_at);
     let hours_at = std::num::wrapping_add_usize(day_at, DAY.width());
-    let e = store(words, d, 14, 0, x.hours, 0, hours_at);
+    let e = store(words, d, cpdlc_tags::HOURS, 0, x.hours, 0, hours_at);
     let minutes_at = std::num::wrapping_add_usize(hours_at, HOURS.width());
-    let f = store(words, e, 15, 0, x.minutes, 0, minutes_at);
+    let f = store(words, e, cpdlc_tags::MINUTES, 0, x.minutes, 0, minutes_at);
     let seconds_at = std::num::wrapping_add_usize(minutes_at, MINUTES.width());
-    store(words, f, 16, 0, x.seconds, 0, seconds_at)
+    store(words, f, cpdlc_tags::SECONDS, 0, x.seconds, 0, seconds_at)
 }

@@ -4,63 +4,76 @@ ghost use Prim.Native.Nat.{_+_, _^_, _<_};
 ghost use Rattle.record_views.specs.View.{recordAt, recordsFrom};
 ghost use Rattle.element_kinds.specs.Kinds.{kindBy, kindOf};
 ghost use Rattle.element_kinds.specs.Agreed.{isLast, kindAgrees, oneAgrees, laterAgree, elementAgrees, agreed};
+use cpdlc_tags::CLEARANCE;
+use cpdlc_tags::CLEARANCE_TYPE;
+use cpdlc_tags::CODE_DIGIT;
+use cpdlc_tags::COORDINATES;
+use cpdlc_tags::DEGREES;
+use cpdlc_tags::ELEMENT_INDEX;
+use cpdlc_tags::ERROR_INFORMATION;
+use cpdlc_tags::FACILITY_FUNCTION;
+use cpdlc_tags::FLIGHT_IDENTIFICATION;
+use cpdlc_tags::FREQUENCY;
+use cpdlc_tags::LEVEL;
+use cpdlc_tags::POSITION;
+use cpdlc_tags::PROCEDURE;
+use cpdlc_tags::RUNWAY;
+use cpdlc_tags::SPEED;
+use cpdlc_tags::SPEED_TYPE;
+use cpdlc_tags::TRAFFIC_TYPE;
 use record_views::record_at;
 use record_views::records_in;
-
-const ELEMENT_INDEX: u64 = 22;
-
-const CLEARANCE: u64 = 80;
 
 // The argument's kind by the first two tags behind an element's index.
 fn kind_by(t: u64, u: u64) -> u64
     ensures { λ r. ⌜ r ≡ kindBy t u ⌝ }
 {
-    if t == 30 {
+    if t == POSITION {
         return 1;
     }
-    if t == 50 {
+    if t == SPEED {
         return 2;
     }
-    if t == 52 {
-        if u == 52 {
+    if t == SPEED_TYPE {
+        if u == SPEED_TYPE {
             return 4;
         }
         return 3;
     }
-    if t == 53 {
+    if t == LEVEL {
         return 5;
     }
-    if t == 55 {
+    if t == DEGREES {
         return 6;
     }
-    if t == 57 {
+    if t == FREQUENCY {
         return 7;
     }
-    if t == 60 {
+    if t == CODE_DIGIT {
         return 8;
     }
-    if t == 61 {
+    if t == TRAFFIC_TYPE {
         return 9;
     }
-    if t == 62 {
+    if t == CLEARANCE_TYPE {
         return 10;
     }
-    if t == 63 {
+    if t == ERROR_INFORMATION {
         return 11;
     }
-    if t == 64 {
+    if t == FACILITY_FUNCTION {
         return 12;
     }
-    if t == 65 {
+    if t == PROCEDURE {
         return 13;
     }
-    if t == 68 {
+    if t == RUNWAY {
         return 14;
     }
-    if t == 34 {
+    if t == COORDINATES {
         return 15;
     }
-    if t == 70 {
+    if t == FLIGHT_IDENTIFICATION {
         return 16;
     }
     0

@@ -4,6 +4,7 @@ ghost use lib.ListN.{length};
 ghost use Rattle.elements.specs.Elements.{argumentAt, elementAt, elementsAt};
 ghost use Rattle.runs.specs.Runs.{Runs};
 use arguments::read_argument;
+use cpdlc_tags::ELEMENT_INDEX;
 use cursor::place::Cursor;
 use cursor::place::bits;
 use cursor::place::stop;
@@ -58,7 +59,7 @@ pub fn read_element(s: &[u8], words: &mut [u64], x: At, table: &[u8], i: u64) ->
     }
     let v = g.v as usize;
     if v < table.len() {
-        let m = emit(words, n, 22, i, g.v, 0, x.c.at);
+        let m = emit(words, n, ELEMENT_INDEX, i, g.v, 0, x.c.at);
         let y = At { n: m, c: c };
         return read_told_argument(s, words, y, table[v], i);
     }

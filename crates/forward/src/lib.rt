@@ -4,6 +4,7 @@ ghost use lib.ListN.{length};
 ghost use Rattle.inner_messages.specs.Parts.{laxData};
 ghost use Rattle.forward.specs.Forward.{Forgives, carriedTable, forwardAt};
 ghost use Rattle.runs.specs.Runs.{Runs};
+use cpdlc_tags::CARRIED_DIRECTION;
 use cursor::place::Cursor;
 use cursor::place::bits;
 use forward_headers::read_header;
@@ -79,7 +80,7 @@ pub fn read_forward(s: &[u8], words: &mut [u64], n: usize, c: Cursor, down: &[u8
         }
         Inner::Found(from, to, window, d) => {
             let a = tell_header(words, n, s, header);
-            let b = emit(words, a, 21, 0, g.v, 0, h.c.at);
+            let b = emit(words, a, CARRIED_DIRECTION, 0, g.v, 0, h.c.at);
             let x = read_carried(&s[from..to], words, b, window, g.v, down, up);
             let m = x.n;
             // they were told with places in the string's bytes

@@ -5,6 +5,8 @@ ghost use Rattle.forward_headers.specs.Headers.{Headers, headerRecs};
 ghost use Rattle.records.specs.Told.{Told};
 use character_strings::Text;
 use character_strings::ia5;
+use cpdlc_tags::AIRCRAFT_ADDRESS;
+use cpdlc_tags::AIRCRAFT_ID;
 use cursor::place::Cursor;
 use date_times::DateTime;
 use date_times::read_date_time;
@@ -54,6 +56,14 @@ pub fn tell_header(words: &mut [u64], n: usize, s: &[u8], x: Header) -> usize
     let time = x.time;
     let name = x.name;
     let a = tell_date_time(words, n, time);
-    let b = tell_text(words, a, 19, 0, s, name);
-    emit(words, b, 20, 0, x.address as u64, 24, x.address)
+    let b = tell_text(words, a, AIRCRAFT_ID, 0, s, name);
+    emit(
+        words,
+        b,
+        AIRCRAFT_ADDRESS,
+        0,
+        x.address as u64,
+        24,
+        x.address,
+    )
 }

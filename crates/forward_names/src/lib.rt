@@ -9,6 +9,7 @@ ghost use Rattle.atn.specs.Entries.{accept, readFrame};
 ghost use Rattle.atn.specs.Messages.{groundPdus};
 ghost use Rattle.forward_names.specs.Names.{turned, nameIn, forward-name};
 use cpdlc_frames::try_frame;
+use cpdlc_tags::AIRCRAFT_ID;
 use cursor::place::Cursor;
 use cursor::place::bits;
 use forward_headers::read_header;
@@ -88,7 +89,7 @@ fn clean_name(frame: &[u8], reach: usize) -> Named
     let header = h.header;
     let name = header.name;
     let mut words = [0u64; 5];
-    tell_text(&mut words, 0, 19, 0, frame, name);
+    tell_text(&mut words, 0, AIRCRAFT_ID, 0, frame, name);
     Named {
         number: 0,
         reach: reach,

@@ -3,6 +3,7 @@ ghost use Prim.Native.Nat.{_≤_, _<_, _^_};
 ghost use lib.ListN.{length};
 ghost use Rattle.integrity.specs.Parts.{integrity};
 ghost use Rattle.runs.specs.Runs.{Runs};
+use cpdlc_tags::INTEGRITY_CHECK;
 use cursor::place::Cursor;
 use length_determinants::length;
 use length_determinants::pass;
@@ -45,6 +46,14 @@ pub fn read_integrity(s: &[u8], words: &mut [u64], n: usize, c: Cursor) -> At
     if l.count == 0 {
         return At { n: n, c: end };
     }
-    let m = emit(words, n, 18, 0, at as u64, l.count as u64, c.at);
+    let m = emit(
+        words,
+        n,
+        INTEGRITY_CHECK,
+        0,
+        at as u64,
+        l.count as u64,
+        c.at,
+    );
     At { n: m, c: end }
 }

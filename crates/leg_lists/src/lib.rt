@@ -6,6 +6,7 @@ ghost use Rattle.atn.specs.Reading.{read};
 ghost use Rattle.atn.specs.Messages.{leg};
 ghost use Rattle.optional_parts.specs.Parts.{Part};
 use character_strings::size;
+use cpdlc_tags::LEG;
 use cursor::place::Cursor;
 use field_ranges::table::LEGS;
 use legs::read_leg;
@@ -25,7 +26,7 @@ fn put_leg(s: &[u8], words: &mut [u64], n: usize, c: Cursor, place: u64) -> At
     if d.why != 0 {
         return At { n: n, c: d };
     }
-    let m = emit(words, n, 96, 0, place, 0, at);
+    let m = emit(words, n, LEG, 0, place, 0, at);
     let k = tell_leg(words, m, s, at, x);
     At { n: k, c: d }
 }

@@ -47,8 +47,8 @@ pub fn read_message(s: &[u8], words: &mut [u64], n: usize, c: Cursor, table: &[u
     let has = presence(s, c, 2);
     let d = has.c;
     let first = At { n: n, c: d };
-    let id = number_field(s, words, first, MSG_ID, 9);
-    let reference = maybe_number_field(s, words, id, has.v / 2 % 2, MSG_ID, 10);
+    let id = number_field(s, words, first, MSG_ID, cpdlc_tags::MSG_ID);
+    let reference = maybe_number_field(s, words, id, has.v / 2 % 2, MSG_ID, cpdlc_tags::MSG_REF);
     let time = date_time_field(s, words, reference);
     let x = acknowledgment_field(s, words, time, has.v % 2);
     let m = x.n;

@@ -3,6 +3,7 @@ ghost use Prim.Native.Nat.{_<_, _^_};
 ghost use Rattle.field_ranges.specs.Ranges.{Listed};
 ghost use Rattle.message_fields.specs.Fields.{numberField, maybeNumberField, dateTimeField, acknowledgmentField};
 ghost use Rattle.runs.specs.Runs.{Runs};
+use cpdlc_tags::LOGICAL_ACK;
 use date_times::read_date_time;
 use date_times::tell_date_time;
 use field_ranges::table::Range;
@@ -70,8 +71,8 @@ pub fn acknowledgment_field(s: &[u8], words: &mut [u64], x: At, has: u64) -> At
         if d.why != 0 {
             return x;
         }
-        let m = emit(words, n, 17, 0, 1, 0, d.at);
+        let m = emit(words, n, LOGICAL_ACK, 0, 1, 0, d.at);
         return At { n: m, c: d };
     }
-    number_field(s, words, x, SIDE, 17)
+    number_field(s, words, x, SIDE, LOGICAL_ACK)
 }

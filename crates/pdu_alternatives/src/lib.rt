@@ -25,7 +25,7 @@ fn read_start(s: &[u8], words: &mut [u64], n: usize, c: Cursor, down: &[u8]) -> 
     let has = presence(s, c, 1);
     let d = has.c;
     let first = At { n: n, c: d };
-    let x = maybe_number_field(s, words, first, has.v % 2, SIDE, 7);
+    let x = maybe_number_field(s, words, first, has.v % 2, SIDE, cpdlc_tags::MODE);
     let m = x.n;
     read_protected(s, words, m, x.c, down)
 }
@@ -35,10 +35,24 @@ fn down_alternative(s: &[u8], words: &mut [u64], n: usize, c: Cursor, index: u64
     ensures { λ r. ⌜ Runs 236122 (alternativeAt 0 index (now (down .entry)) [] (now (s .entry))) (now (s .entry)) c n (now (words .entry)) (now (words .exit)) r ⌝ }
 {
     if index == 0 {
-        return reason_part(s, words, n, c, USER_ABORT_REASON, 4);
+        return reason_part(
+            s,
+            words,
+            n,
+            c,
+            USER_ABORT_REASON,
+            cpdlc_tags::USER_ABORT_REASON,
+        );
     }
     if index == 1 {
-        return reason_part(s, words, n, c, PROVIDER_ABORT_REASON, 5);
+        return reason_part(
+            s,
+            words,
+            n,
+            c,
+            PROVIDER_ABORT_REASON,
+            cpdlc_tags::PROVIDER_ABORT_REASON,
+        );
     }
     if index == 2 {
         return read_start(s, words, n, c, down);
@@ -63,10 +77,24 @@ fn up_alternative(
     ensures { λ r. ⌜ Runs 236122 (alternativeAt 1 index (now (down .entry)) (now (up .entry)) (now (s .entry))) (now (s .entry)) c n (now (words .entry)) (now (words .exit)) r ⌝ }
 {
     if index == 0 {
-        return reason_part(s, words, n, c, USER_ABORT_REASON, 4);
+        return reason_part(
+            s,
+            words,
+            n,
+            c,
+            USER_ABORT_REASON,
+            cpdlc_tags::USER_ABORT_REASON,
+        );
     }
     if index == 1 {
-        return reason_part(s, words, n, c, PROVIDER_ABORT_REASON, 5);
+        return reason_part(
+            s,
+            words,
+            n,
+            c,
+            PROVIDER_ABORT_REASON,
+            cpdlc_tags::PROVIDER_ABORT_REASON,
+        );
     }
     // a start or a send
     if index < 4 {
@@ -76,7 +104,14 @@ fn up_alternative(
         return read_forward(s, words, n, c, down, up);
     }
     if index == 5 {
-        return reason_part(s, words, n, c, FORWARD_RESPONSE, 6);
+        return reason_part(
+            s,
+            words,
+            n,
+            c,
+            FORWARD_RESPONSE,
+            cpdlc_tags::FORWARD_RESPONSE,
+        );
     }
     let d = stop(c, 5, 1);
     At { n: n, c: d }

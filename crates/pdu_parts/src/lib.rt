@@ -5,6 +5,8 @@ ghost use lib.ListN.{length};
 ghost use Rattle.field_ranges.specs.Ranges.{Listed};
 ghost use Rattle.pdu_parts.specs.Parts.{reasonAt, extensionAt};
 ghost use Rattle.runs.specs.Runs.{Runs};
+use cpdlc_tags::EXTENSION_INDEX;
+use cpdlc_tags::PDU;
 use cursor::place::Cursor;
 use cursor::place::mark;
 use field_ranges::table::Range;
@@ -33,13 +35,13 @@ pub fn read_extension(s: &[u8], words: &mut [u64], n: usize, c: Cursor) -> At
     if c.why != 0 {
         return At { n: n, c: c };
     }
-    let m = emit(words, n, 2, 0, 0, 1, c.at);
+    let m = emit(words, n, PDU, 0, 0, 1, c.at);
     let d = mark(c, 2);
     let g = small(s, d);
     let e = g.c;
     if e.why != 0 {
         return At { n: m, c: e };
     }
-    let k = emit(words, m, 3, 0, g.v, 0, d.at);
+    let k = emit(words, m, EXTENSION_INDEX, 0, g.v, 0, d.at);
     At { n: k, c: e }
 }

@@ -4,6 +4,8 @@ ghost use Prim.Native.Nat.{_≤_, _<_, _^_};
 ghost use lib.ListN.{length};
 ghost use Rattle.pdus.specs.Pdus.{indexBits, pduAt};
 ghost use Rattle.runs.specs.Runs.{Runs};
+use cpdlc_tags::DIRECTION;
+use cpdlc_tags::PDU;
 use cursor::place::Cursor;
 use cursor::place::bits;
 use cursor::place::mark;
@@ -34,7 +36,7 @@ pub fn read_pdu(
     requires { ⌜ (length (now s) ≤ 65536) × (n < 2 ^ 19) × (1 ≤ length (now down)) × (length (now down) ≤ 256) × (1 ≤ length (now up)) × (length (now up) ≤ 256) × (direction ≤ 1) × (c .why ≡ 0) ⌝ }
     ensures { λ r. ⌜ Runs 236124 (pduAt direction (now (down .entry)) (now (up .entry)) (now (s .entry))) (now (s .entry)) c n (now (words .entry)) (now (words .exit)) r ⌝ }
 {
-    let m = emit(words, n, 1, 0, direction, 0, c.at);
+    let m = emit(words, n, DIRECTION, 0, direction, 0, c.at);
     let extension = bits(s, c, 1);
     let d = extension.c;
     if extension.v != 0 {
@@ -47,6 +49,6 @@ pub fn read_pdu(
     if e.why != 0 {
         return At { n: m, c: e };
     }
-    let k = emit(words, m, 2, 0, g.v, 0, d.at);
+    let k = emit(words, m, PDU, 0, g.v, 0, d.at);
     alternative(s, words, k, e, direction, g.v, down, up)
 }

@@ -5,6 +5,7 @@ ghost use lib.ListN.{length};
 ghost use Rattle.cursor.specs.Place.{Reads};
 ghost use Rattle.protected.specs.Parts.{algorithm, messagePart, protected};
 ghost use Rattle.runs.specs.Runs.{Runs};
+use cpdlc_tags::EMPTY;
 use cursor::place::Cursor;
 use cursor::place::bits;
 use cursor::place::mark;
@@ -41,7 +42,7 @@ fn message_part(s: &[u8], words: &mut [u64], n: usize, c: Cursor, has: u64, tabl
         if c.why != 0 {
             return At { n: n, c: c };
         }
-        let m = emit(words, n, 8, 0, 1, 0, c.at);
+        let m = emit(words, n, EMPTY, 0, 1, 0, c.at);
         return At { n: m, c: c };
     }
     read_inner(s, words, n, c, table)

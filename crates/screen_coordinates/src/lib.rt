@@ -5,6 +5,8 @@ ghost use lib.ListN.{length};
 ghost use Rattle.screen_bytes.specs.Put.{Put};
 ghost use Rattle.record_views.specs.View.{recordsFrom};
 ghost use Rattle.screen_coordinates.specs.Coordinates.{angle, angleRecords, longitudeAt, latitude, longitude, between, coordinates, coordinatesRecords};
+use cpdlc_tags::LATITUDE;
+use cpdlc_tags::LONGITUDE;
 use phrases::put_line;
 use screen_bytes::put_byte;
 use screen_bytes::put_text;
@@ -64,7 +66,7 @@ fn longitude_at(words: &[u64], i: usize) -> usize
     requires { ⌜ i < 2 ^ 57 ⌝ }
     ensures { λ r. ⌜ (r ≡ longitudeAt (recordsFrom i (now (words .entry)))) × (r ≤ 6) ⌝ }
 {
-    if tag_at(words, i, 1) == 35 {
+    if tag_at(words, i, 1) == LATITUDE {
         return 1 + angle_records(words, i + 1);
     }
     1
@@ -74,7 +76,7 @@ fn put_latitude(out: &mut [u8], at: usize, words: &[u64], i: usize) -> usize
     requires { ⌜ (at < 2 ^ 57) × (i < 2 ^ 57) ⌝ }
     ensures { λ m. ⌜ Put 68 (now (out .entry)) (now (out .exit)) at m (latitude (recordsFrom i (now (words .entry)))) ⌝ }
 {
-    if tag_at(words, i, 1) == 35 {
+    if tag_at(words, i, 1) == LATITUDE {
         return put_angle(out, at, words, i + 1, b"N\nS\n");
     }
     at
@@ -84,7 +86,7 @@ fn put_longitude(out: &mut [u8], at: usize, words: &[u64], i: usize) -> usize
     requires { ⌜ (at < 2 ^ 57) × (i < 2 ^ 57) ⌝ }
     ensures { λ m. ⌜ Put 68 (now (out .entry)) (now (out .exit)) at m (longitude (recordsFrom i (now (words .entry)))) ⌝ }
 {
-    if tag_at(words, i, 0) == 42 {
+    if tag_at(words, i, 0) == LONGITUDE {
         return put_angle(out, at, words, i, b"E\nW\n");
     }
     at
@@ -95,8 +97,8 @@ fn put_between(out: &mut [u8], at: usize, t: u64, u: u64) -> usize
     requires { ⌜ at < 2 ^ 57 ⌝ }
     ensures { λ m. ⌜ Put 1 (now (out .entry)) (now (out .exit)) at m (between t u) ⌝ }
 {
-    if t == 35 {
-        if u == 42 {
+    if t == LATITUDE {
+        if u == LONGITUDE {
             return put_byte(out, at, b' ');
         }
     }
@@ -121,7 +123,7 @@ pub fn coordinates_records(words: &[u64], i: usize) -> usize
     ensures { λ r. ⌜ (r ≡ coordinatesRecords (recordsFrom i (now (words .entry)))) × (r ≤ 11) ⌝ }
 {
     let k = longitude_at(words, i);
-    if tag_at(words, i, k) == 42 {
+    if tag_at(words, i, k) == LONGITUDE {
         return k + angle_records(words, i + k);
     }
     k

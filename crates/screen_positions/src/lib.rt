@@ -4,6 +4,9 @@ ghost use Prim.Native.Nat.{_^_, _≤_, _<_};
 ghost use Rattle.screen_bytes.specs.Put.{Put};
 ghost use Rattle.record_views.specs.View.{recordsFrom};
 ghost use Rattle.screen_positions.specs.Positions.{bracketed, named, namedRecords, position, positionRecords, unread, cleared, departure};
+use cpdlc_tags::COORDINATES;
+use cpdlc_tags::FLIGHT_INFORMATION;
+use cpdlc_tags::FURTHER_INSTRUCTIONS;
 use screen_bytes::put_byte;
 use screen_bytes::put_text;
 use screen_coordinates::coordinates_records;
@@ -18,7 +21,7 @@ fn put_bracketed(out: &mut [u8], at: usize, words: &[u64], i: usize) -> usize
     requires { ⌜ (at < 2 ^ 55) × (i < 2 ^ 55) ⌝ }
     ensures { λ m. ⌜ Put 140 (now (out .entry)) (now (out .exit)) at m (bracketed (recordsFrom i (now (words .entry)))) ⌝ }
 {
-    if tag_at(words, i, 0) != 34 {
+    if tag_at(words, i, 0) != COORDINATES {
         return at;
     }
     let a = put_text(out, at, b" (");
@@ -42,7 +45,7 @@ fn named_records(words: &[u64], i: usize) -> usize
     ensures { λ r. ⌜ (r ≡ namedRecords (recordsFrom i (now (words .entry)))) × (r ≤ 15) ⌝ }
 {
     let k = text_records(words, i);
-    if tag_at(words, i, k) == 34 {
+    if tag_at(words, i, k) == COORDINATES {
         return k + coordinates_records(words, i + k);
     }
     k
@@ -80,14 +83,14 @@ fn put_unread(out: &mut [u8], at: usize, t: u64) -> usize
     requires { ⌜ at < 2 ^ 53 ⌝ }
     ensures { λ m. ⌜ Put 60 (now (out .entry)) (now (out .exit)) at m (unread t) ⌝ }
 {
-    if t == 71 {
+    if t == FLIGHT_INFORMATION {
         return put_text(
             out,
             at,
             b" (+flight-info/further-instructions present, undecoded)",
         );
     }
-    if t == 72 {
+    if t == FURTHER_INSTRUCTIONS {
         return put_text(
             out,
             at,

@@ -7,6 +7,9 @@ ghost use Rattle.phrases.specs.Phrases.{lineOf};
 ghost use Rattle.record_views.specs.View.{fetched, recordAt, recordsFrom};
 ghost use Rattle.screen_bytes.specs.Put.{Put};
 ghost use Rattle.screen_text.specs.Text.{direction, tableOf, onePhrased, phrased, indexLine, leftAfter, recordLine, lines, most, cost, phraseLength};
+use cpdlc_tags::CARRIED_DIRECTION;
+use cpdlc_tags::DIRECTION;
+use cpdlc_tags::ELEMENT_INDEX;
 use element_kinds::kind_at;
 use phrases::Phrase;
 use phrases::phrase_of;
@@ -15,12 +18,6 @@ use record_views::record_at;
 use record_views::records_in;
 use screen_bytes::put_byte;
 use screen_elements::put_element_line;
-
-const DIRECTION: u64 = 1;
-
-const CARRIED_DIRECTION: u64 = 21;
-
-const ELEMENT_INDEX: u64 = 22;
 
 // No message has more elements.
 const ELEMENTS: u64 = 8;

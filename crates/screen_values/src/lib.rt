@@ -4,6 +4,7 @@ ghost use lib.ListN.{length};
 ghost use Rattle.screen_bytes.specs.Put.{Put};
 ghost use Rattle.record_views.specs.View.{recordsFrom};
 ghost use Rattle.screen_values.specs.Values.{enumeration, level, speed, degrees, frequency, code, transition, procedure, runway};
+use cpdlc_tags::PROCEDURE_TRANSITION;
 use phrases::put_line;
 use screen_bytes::put_byte;
 use screen_bytes::put_text;
@@ -125,7 +126,7 @@ fn put_transition(out: &mut [u8], at: usize, words: &[u64], i: usize) -> usize
     requires { ⌜ (at < 2 ^ 57) × (i < 2 ^ 57) ⌝ }
     ensures { λ m. ⌜ Put 44 (now (out .entry)) (now (out .exit)) at m (transition (recordsFrom i (now (words .entry)))) ⌝ }
 {
-    if tag_at(words, i, 0) != 67 {
+    if tag_at(words, i, 0) != PROCEDURE_TRANSITION {
         return at;
     }
     let m = put_text(out, at, b" TRANSITION ");

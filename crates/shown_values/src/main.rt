@@ -13,7 +13,7 @@ fn main() {
 }
 
 fn speeds(all: bool) {
-    let tags = [50, 51, 0, 0, 0, 0];
+    let tags = [cpdlc_tags::SPEED, cpdlc_tags::SPEED_NUMBER, 0, 0, 0, 0];
     sweep::sweep(all, 2, &tags, [0, 0, 0, 0, 0, 0], 1, 0, 512);
     sweep::sweep(all, 2, &tags, [1, 0, 0, 0, 0, 0], 1, 0, 1024);
     sweep::sweep(all, 2, &tags, [2, 0, 0, 0, 0, 0], 1, 0, 2048);
@@ -40,7 +40,7 @@ fn speeds(all: bool) {
 }
 
 fn levels(all: bool) {
-    let tags = [53, 54, 0, 0, 0, 0];
+    let tags = [cpdlc_tags::LEVEL, cpdlc_tags::LEVEL_NUMBER, 0, 0, 0, 0];
     sweep::sweep(
         all,
         5,
@@ -65,14 +65,21 @@ fn levels(all: bool) {
 
 // Degrees, frequencies and runways.
 fn others(all: bool) {
-    let degrees = [55, 56, 0, 0, 0, 0];
+    let degrees = [cpdlc_tags::DEGREES, cpdlc_tags::DEGREES_NUMBER, 0, 0, 0, 0];
     sweep::sweep(all, 6, &degrees, [0, 0, 0, 0, 0, 0], 1, 1, 512);
     sweep::sweep(all, 6, &degrees, [1, 0, 0, 0, 0, 0], 1, 1, 512);
-    let frequency = [57, 58, 0, 0, 0, 0];
+    let frequency = [
+        cpdlc_tags::FREQUENCY,
+        cpdlc_tags::FREQUENCY_NUMBER,
+        0,
+        0,
+        0,
+        0,
+    ];
     sweep::sweep(all, 7, &frequency, [0, 0, 0, 0, 0, 0], 1, 2850, 32768);
     sweep::sweep(all, 7, &frequency, [1, 0, 0, 0, 0, 0], 1, 23600, 4096);
     sweep::sweep(all, 7, &frequency, [2, 0, 0, 0, 0, 0], 1, 9000, 8192);
-    let runway = [68, 69, 0, 0, 0, 0];
+    let runway = [cpdlc_tags::RUNWAY, cpdlc_tags::RUNWAY_SIDE, 0, 0, 0, 0];
     sweep::sweep(all, 14, &runway, [0, 0, 0, 0, 0, 0], 0, 1, 64);
     sweep::sweep(all, 14, &runway, [0, 1, 0, 0, 0, 0], 0, 1, 64);
     sweep::sweep(all, 14, &runway, [0, 2, 0, 0, 0, 0], 0, 1, 64);
@@ -80,24 +87,66 @@ fn others(all: bool) {
 }
 
 fn latitudes(all: bool) {
-    let thousandths = [34, 35, 36, 41, 0, 0];
+    let thousandths = [
+        cpdlc_tags::COORDINATES,
+        cpdlc_tags::LATITUDE,
+        cpdlc_tags::LATITUDE_THOUSANDTHS,
+        cpdlc_tags::LATITUDE_SIDE,
+        0,
+        0,
+    ];
     sweep::sweep(all, 15, &thousandths, [0, 0, 0, 0, 0, 0], 2, 0, 131072);
-    let hundredths = [34, 35, 37, 38, 41, 0];
+    let hundredths = [
+        cpdlc_tags::COORDINATES,
+        cpdlc_tags::LATITUDE,
+        cpdlc_tags::LATITUDE_DEGREES,
+        cpdlc_tags::LATITUDE_HUNDREDTHS,
+        cpdlc_tags::LATITUDE_SIDE,
+        0,
+    ];
     sweep::sweep(all, 15, &hundredths, [0, 1, 0, 0, 1, 0], 2, 0, 128);
     sweep::sweep(all, 15, &hundredths, [0, 1, 45, 0, 1, 0], 3, 0, 8192);
-    let seconds = [34, 35, 37, 39, 40, 41];
+    let seconds = [
+        cpdlc_tags::COORDINATES,
+        cpdlc_tags::LATITUDE,
+        cpdlc_tags::LATITUDE_DEGREES,
+        cpdlc_tags::LATITUDE_MINUTES,
+        cpdlc_tags::LATITUDE_SECONDS,
+        cpdlc_tags::LATITUDE_SIDE,
+    ];
     sweep::sweep(all, 15, &seconds, [0, 2, 0, 0, 0, 0], 2, 0, 128);
     sweep::sweep(all, 15, &seconds, [0, 2, 45, 0, 0, 0], 3, 0, 64);
     sweep::sweep(all, 15, &seconds, [0, 2, 45, 30, 0, 0], 4, 0, 64);
 }
 
 fn longitudes(all: bool) {
-    let thousandths = [34, 42, 43, 48, 0, 0];
+    let thousandths = [
+        cpdlc_tags::COORDINATES,
+        cpdlc_tags::LONGITUDE,
+        cpdlc_tags::LONGITUDE_THOUSANDTHS,
+        cpdlc_tags::LONGITUDE_SIDE,
+        0,
+        0,
+    ];
     sweep::sweep(all, 15, &thousandths, [0, 0, 0, 0, 0, 0], 2, 0, 262144);
-    let hundredths = [34, 42, 44, 45, 48, 0];
+    let hundredths = [
+        cpdlc_tags::COORDINATES,
+        cpdlc_tags::LONGITUDE,
+        cpdlc_tags::LONGITUDE_DEGREES,
+        cpdlc_tags::LONGITUDE_HUNDREDTHS,
+        cpdlc_tags::LONGITUDE_SIDE,
+        0,
+    ];
     sweep::sweep(all, 15, &hundredths, [0, 1, 0, 0, 1, 0], 2, 0, 256);
     sweep::sweep(all, 15, &hundredths, [0, 1, 45, 0, 1, 0], 3, 0, 8192);
-    let seconds = [34, 42, 44, 46, 47, 48];
+    let seconds = [
+        cpdlc_tags::COORDINATES,
+        cpdlc_tags::LONGITUDE,
+        cpdlc_tags::LONGITUDE_DEGREES,
+        cpdlc_tags::LONGITUDE_MINUTES,
+        cpdlc_tags::LONGITUDE_SECONDS,
+        cpdlc_tags::LONGITUDE_SIDE,
+    ];
     sweep::sweep(all, 15, &seconds, [0, 2, 0, 0, 0, 0], 2, 0, 256);
     sweep::sweep(all, 15, &seconds, [0, 2, 45, 0, 0, 0], 3, 0, 64);
     sweep::sweep(all, 15, &seconds, [0, 2, 45, 30, 0, 0], 4, 0, 64);

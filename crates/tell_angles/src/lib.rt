@@ -6,6 +6,9 @@ use angles::Angle;
 use angles::MaybeAngle;
 use angles::MaybePair;
 use angles::Pair;
+use cpdlc_tags::COORDINATES;
+use cpdlc_tags::LATITUDE;
+use cpdlc_tags::LONGITUDE;
 use field_ranges::table::HUNDREDTHS;
 use field_ranges::table::LATITUDE_DEGREES;
 use field_ranges::table::LATITUDE_THOUSANDTHS;
@@ -74,12 +77,12 @@ pub fn tell_pair(words: &mut [u64], n: usize, element: u64, x: Pair) -> usize
 {
     let latitude = x.latitude;
     let longitude = x.longitude;
-    let a = emit(words, n, 34, element, 0, 0, x.at);
+    let a = emit(words, n, COORDINATES, element, 0, 0, x.at);
     let b = tell_maybe_angle(
         words,
         a,
         element,
-        35,
+        LATITUDE,
         LATITUDE_THOUSANDTHS.width(),
         LATITUDE_DEGREES.width(),
         latitude,
@@ -88,7 +91,7 @@ pub fn tell_pair(words: &mut [u64], n: usize, element: u64, x: Pair) -> usize
         words,
         b,
         element,
-        42,
+        LONGITUDE,
         LONGITUDE_THOUSANDTHS.width(),
         LONGITUDE_DEGREES.width(),
         longitude,

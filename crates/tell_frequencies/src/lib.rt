@@ -2,6 +2,10 @@
 ghost use Prim.Native.Nat.{_<_, _^_};
 ghost use Rattle.records.specs.Told.{Told};
 ghost use Rattle.frequencies.specs.Records.{frequencyRecs, HeldChannel};
+use cpdlc_tags::FREQUENCY;
+use cpdlc_tags::FREQUENCY_NUMBER;
+use cpdlc_tags::SATELLITE_CHANNEL;
+use cpdlc_tags::SATELLITE_CHANNEL_X691;
 use frequencies::Frequency;
 use records::emit;
 use tell::tell_channel;
@@ -11,9 +15,25 @@ pub fn tell_frequency(words: &mut [u64], n: usize, element: u64, s: &[u8], x: Fr
     ensures { λ m. ⌜ Told 5 (now (words .entry)) (now (words .exit)) n m (frequencyRecs (now (s .entry)) x element) ⌝ }
 {
     let channel = x.channel;
-    let m = emit(words, n, 57, element, x.kind, 0, x.kind_at);
+    let m = emit(words, n, FREQUENCY, element, x.kind, 0, x.kind_at);
     if x.kind < 3 {
-        return emit(words, m, 58, element, x.number, 0, x.number_at);
+        return emit(
+            words,
+            m,
+            FREQUENCY_NUMBER,
+            element,
+            x.number,
+            0,
+            x.number_at,
+        );
     }
-    tell_channel(words, m, 59, 73, element, s, channel)
+    tell_channel(
+        words,
+        m,
+        SATELLITE_CHANNEL,
+        SATELLITE_CHANNEL_X691,
+        element,
+        s,
+        channel,
+    )
 }

@@ -3,6 +3,10 @@ ghost use Prim.Native.Nat.{_<_, _^_};
 ghost use Rattle.records.specs.Told.{Told};
 ghost use Rattle.named_places.specs.Names.{Held};
 ghost use Rattle.legs.specs.Legs.{HeldLeg, bearingRecs, legRecs};
+use cpdlc_tags::DEGREES;
+use cpdlc_tags::DEGREES_NUMBER;
+use cpdlc_tags::ROUTE_DESIGNATOR;
+use cpdlc_tags::ROUTE_INFORMATION;
 use legs::Bearing;
 use legs::Leg;
 use records::emit;
@@ -18,7 +22,7 @@ fn tell_bearing(words: &mut [u64], n: usize, s: &[u8], x: Bearing) -> usize
     let place = x.place;
     let degrees = x.degrees;
     let m = tell_published(words, n, 0, s, place);
-    tell_quantity(words, m, 0, 55, 56, degrees)
+    tell_quantity(words, m, 0, DEGREES, DEGREES_NUMBER, degrees)
 }
 
 // A leg stands outside the elements, and starts at `at`. What cannot be read has no records.
@@ -28,21 +32,21 @@ pub fn tell_leg(words: &mut [u64], n: usize, s: &[u8], at: usize, x: Leg) -> usi
 {
     match x {
         Leg::Place(place) => {
-            let m = emit(words, n, 97, 0, 0, 0, at);
+            let m = emit(words, n, ROUTE_INFORMATION, 0, 0, 0, at);
             tell_published(words, m, 0, s, place)
         }
         Leg::Coordinates(pair) => {
-            let m = emit(words, n, 97, 0, 1, 0, at);
+            let m = emit(words, n, ROUTE_INFORMATION, 0, 1, 0, at);
             tell_pair(words, m, 0, pair)
         }
         Leg::Between(first, second) => {
-            let m = emit(words, n, 97, 0, 2, 0, at);
+            let m = emit(words, n, ROUTE_INFORMATION, 0, 2, 0, at);
             let k = tell_bearing(words, m, s, first);
             tell_bearing(words, k, s, second)
         }
         Leg::Designator(name) => {
-            let m = emit(words, n, 97, 0, 4, 0, at);
-            tell_text(words, m, 101, 0, s, name)
+            let m = emit(words, n, ROUTE_INFORMATION, 0, 4, 0, at);
+            tell_text(words, m, ROUTE_DESIGNATOR, 0, s, name)
         }
         Leg::Unread => n,
     }

@@ -5,6 +5,9 @@ ghost use Rattle.records.specs.Told.{Told};
 ghost use Rattle.angles.specs.Angles.{unlessAbsent};
 ghost use Rattle.named_places.specs.Names.{Held, namedRecs, publishedRecs, procedureRecs};
 use character_strings::Text;
+use cpdlc_tags::PUBLISHED;
+use cpdlc_tags::PUBLISHED_FIX;
+use cpdlc_tags::PUBLISHED_NAVAID;
 use named_places::Named;
 use named_places::Procedure;
 use named_places::Published;
@@ -27,11 +30,11 @@ pub fn tell_published(words: &mut [u64], n: usize, element: u64, s: &[u8], x: Pu
     ensures { λ m. ⌜ Told 76 (now (words .entry)) (now (words .exit)) n m (publishedRecs (now (s .entry)) x element) ⌝ }
 {
     let named = x.named;
-    let m = emit(words, n, 98, element, x.kind, 0, x.at);
+    let m = emit(words, n, PUBLISHED, element, x.kind, 0, x.at);
     if x.kind == 0 {
-        return tell_named(words, m, element, 99, s, named);
+        return tell_named(words, m, element, PUBLISHED_FIX, s, named);
     }
-    tell_named(words, m, element, 100, s, named)
+    tell_named(words, m, element, PUBLISHED_NAVAID, s, named)
 }
 
 fn tell_maybe_text(

@@ -3,6 +3,13 @@ ghost use Prim.Native.Nat.{_<_, _^_};
 ghost use Rattle.records.specs.Told.{Told};
 ghost use Rattle.named_places.specs.Names.{Held};
 ghost use Rattle.positions.specs.Positions.{HeldPosition, positionRecs, noteRecs, departureRecs};
+use cpdlc_tags::AIRPORT;
+use cpdlc_tags::FIX;
+use cpdlc_tags::FLIGHT_IDENTIFICATION;
+use cpdlc_tags::FLIGHT_INFORMATION;
+use cpdlc_tags::FURTHER_INSTRUCTIONS;
+use cpdlc_tags::NAVAID;
+use cpdlc_tags::POSITION;
 use positions::Departure;
 use positions::Position;
 use records::emit;
@@ -16,19 +23,19 @@ pub fn tell_position(words: &mut [u64], n: usize, element: u64, s: &[u8], x: Pos
 {
     match x {
         Position::Fix(at, named) => {
-            let m = emit(words, n, 30, element, 0, 0, at);
-            tell_named(words, m, element, 31, s, named)
+            let m = emit(words, n, POSITION, element, 0, 0, at);
+            tell_named(words, m, element, FIX, s, named)
         }
         Position::Navaid(at, named) => {
-            let m = emit(words, n, 30, element, 1, 0, at);
-            tell_named(words, m, element, 32, s, named)
+            let m = emit(words, n, POSITION, element, 1, 0, at);
+            tell_named(words, m, element, NAVAID, s, named)
         }
         Position::Airport(at, text) => {
-            let m = emit(words, n, 30, element, 2, 0, at);
-            tell_text(words, m, 33, element, s, text)
+            let m = emit(words, n, POSITION, element, 2, 0, at);
+            tell_text(words, m, AIRPORT, element, s, text)
         }
         Position::Coordinates(at, pair) => {
-            let m = emit(words, n, 30, element, 3, 0, at);
+            let m = emit(words, n, POSITION, element, 3, 0, at);
             tell_pair(words, m, element, pair)
         }
         Position::Unread => n,
@@ -52,8 +59,22 @@ pub fn tell_departure(words: &mut [u64], n: usize, element: u64, s: &[u8], x: De
 {
     let flight = x.flight;
     let position = x.position;
-    let a = tell_text(words, n, 70, element, s, flight);
+    let a = tell_text(words, n, FLIGHT_IDENTIFICATION, element, s, flight);
     let b = tell_position(words, a, element, s, position);
-    let d = tell_note(words, b, element, 71, x.information, x.notes_at);
-    tell_note(words, d, element, 72, x.instructions, x.notes_at)
+    let d = tell_note(
+        words,
+        b,
+        element,
+        FLIGHT_INFORMATION,
+        x.information,
+        x.notes_at,
+    );
+    tell_note(
+        words,
+        d,
+        element,
+        FURTHER_INSTRUCTIONS,
+        x.instructions,
+        x.notes_at,
+    )
 }

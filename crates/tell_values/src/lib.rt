@@ -6,6 +6,8 @@ ghost use Rattle.enumerations.specs.Records.{nameRecs, tripleRecs};
 ghost use Rattle.codes_runways.specs.Records.{codeRecs, runwayRecs};
 use codes_runways::Code;
 use codes_runways::Runway;
+use cpdlc_tags::CODE_DIGIT;
+use cpdlc_tags::SPEED_TYPE;
 use enumerations::Name;
 use enumerations::Triple;
 use quantities::Quantity;
@@ -40,19 +42,19 @@ pub fn tell_triple(words: &mut [u64], n: usize, element: u64, x: Triple) -> usiz
     let first = x.first;
     let second = x.second;
     let third = x.third;
-    let a = tell_name(words, n, element, 52, first);
-    let b = tell_name(words, a, element, 52, second);
-    tell_name(words, b, element, 52, third)
+    let a = tell_name(words, n, element, SPEED_TYPE, first);
+    let b = tell_name(words, a, element, SPEED_TYPE, second);
+    tell_name(words, b, element, SPEED_TYPE, third)
 }
 
 pub fn tell_code(words: &mut [u64], n: usize, element: u64, x: Code) -> usize
     requires { ⌜ n < 2 ^ 31 ⌝ }
     ensures { λ m. ⌜ Told 4 (now (words .entry)) (now (words .exit)) n m (codeRecs x element) ⌝ }
 {
-    let a = emit(words, n, 60, element, x.first, 0, x.first_at);
-    let b = emit(words, a, 60, element, x.second, 0, x.second_at);
-    let d = emit(words, b, 60, element, x.third, 0, x.third_at);
-    emit(words, d, 60, element, x.fourth, 0, x.fourth_at)
+    let a = emit(words, n, CODE_DIGIT, element, x.first, 0, x.first_at);
+    let b = emit(words, a, CODE_DIGIT, element, x.second, 0, x.second_at);
+    let d = emit(words, b, CODE_DIGIT, element, x.third, 0, x.third_at);
+    emit(words, d, CODE_DIGIT, element, x.fourth, 0, x.fourth_at)
 }
 
 pub fn tell_runway(

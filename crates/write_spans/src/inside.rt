@@ -7,16 +7,11 @@ ghost use lib.Dec.{leb};
 ghost use Rattle.record_lists.specs.Items.{inside};
 ghost use Rattle.record_lists.specs.Kinds.{spanTag};
 ghost use Rattle.pens.specs.Rest.{rest};
-
-const INTEGRITY_CHECK: u64 = 18;
-
-const AIRCRAFT_ADDRESS: u64 = 20;
-
-const RDP: u64 = 116;
-
-const ARS: u64 = 117;
-
-const LOC_SYS_NSEL_TSEL: u64 = 118;
+use cm_tags::ARS;
+use cm_tags::LOC_SYS_NSEL_TSEL;
+use cm_tags::RDP;
+use cpdlc_tags::AIRCRAFT_ADDRESS;
+use cpdlc_tags::INTEGRITY_CHECK;
 
 // Whether records with this tag are spans.
 pub fn is_span_tag(tag: u64) -> bool
