@@ -2,16 +2,14 @@
 ghost use Rattle.atn.specs.Entries.{parse-acse-apdu};
 ghost use Rattle.answers.specs.Says.{Says};
 use answers::Answer;
+use answers::LONGEST_FRAME;
 
 mod telling; // telling.rt: its records, in lent words
-
-// The bytes of the longest frame.
-const LONGEST: usize = 65536;
 
 pub fn parse_acse_apdu(frame: &[u8], words: &mut [u64]) -> Answer
     ensures { λ r. ⌜ Says r (now (words .exit)) (parse-acse-apdu (now (frame .entry)) (now (words .entry))) ⌝ }
 {
-    if LONGEST < frame.len() {
+    if LONGEST_FRAME < frame.len() {
         return Answer::Refused {
             number: 1,
             reach: 0,

@@ -3,6 +3,9 @@ ghost use mathlib.Core.Bool.{false};
 ghost use mathlib.Core.Path.{_≡_};
 ghost use Rattle.answers.specs.declared.Answer.the-variants.{Accepted, Refused};
 
+// The bytes of the longest frame: a longer one is refused before it is read, with 1.
+pub const LONGEST_FRAME: usize = 65536;
+
 // Accepted: whether the frame ended where the reading carried on without the missing part, the reach, the set of marks and the number of records. Refused: document 01's number, the reach, the words needed, which only 7 has, and the bits lacked, which only 4 has.
 pub enum Answer {
     Accepted {

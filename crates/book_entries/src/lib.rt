@@ -97,7 +97,7 @@ fn plain(x: u32) -> bool
     x / 16777216 < 128
 }
 
-fn wide(x: u32) -> u64
+pub fn wide(x: u32) -> u64
     ensures { λ r. ⌜ r ≡ x ⌝ }
 {
     x as u64

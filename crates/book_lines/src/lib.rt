@@ -7,6 +7,7 @@ ghost use Rattle.book_lines.specs.Lines.{digit as Lines·digit, digits, 
 use book_entries::Entry;
 use book_entries::text;
 use book_entries::unit;
+use book_entries::wide;
 
 // The line of an entry from byte `at` on; the other bytes stay.
 pub fn put_line(out: &mut [u8], at: usize, e: Entry)
@@ -50,10 +51,4 @@ fn digit(d: u64) -> u8
         return d as u8 + 48;
     }
     d as u8 + 55
-}
-
-fn wide(x: u32) -> u64
-    ensures { λ r. ⌜ r ≡ x ⌝ }
-{
-    x as u64
 }

@@ -6,6 +6,7 @@ ghost use Rattle.atn.specs.Entries.{parse-cm, readFrame, settle};
 ghost use Rattle.answers.specs.Says.{Says};
 ghost use Rattle.cm_pdus.specs.Pdus.{pduOf};
 use answers::Answer;
+use answers::LONGEST_FRAME;
 use answers::accepted;
 use answers::refused;
 use cm_pdus::pdu;
@@ -16,14 +17,11 @@ use runs::At;
 use spare_words::CM_SPARE;
 use spare_words::copy;
 
-// The bytes of the longest frame.
-const LONGEST: usize = 65536;
-
 // Direction 0 is the aircraft's message, 1 the ground's.
 pub fn parse_cm(frame: &[u8], direction: u64, words: &mut [u64]) -> Answer
     ensures { λ r. ⌜ Says r (now (words .exit)) (parse-cm (now (frame .entry)) direction (now (words .entry))) ⌝ }
 {
-    if LONGEST < frame.len() {
+    if LONGEST_FRAME < frame.len() {
         return refused(1, 0, 0, 0);
     }
     if 1 < direction {

@@ -7,6 +7,7 @@ ghost use lib.ListN.{length, drop};
 ghost use Rattle.book_entries.specs.Book.{entries};
 ghost use Rattle.counted_books.specs.Counted.{left, held, recounted, emptied, free};
 use book_changes::empty;
+use book_entries::wide;
 use book_search::count;
 use book_search::sound;
 
@@ -80,10 +81,4 @@ fn joined(high: u32, low: u32) -> u64
     ensures { λ r. ⌜ r ≡ high * 4294967296 + low ⌝ }
 {
     wide(high) * 4294967296 + wide(low)
-}
-
-fn wide(x: u32) -> u64
-    ensures { λ r. ⌜ r ≡ x ⌝ }
-{
-    x as u64
 }

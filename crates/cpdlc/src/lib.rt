@@ -4,8 +4,9 @@ ghost use Prim.Native.Nat.{_≤_};
 ghost use lib.ListN.{length};
 ghost use Rattle.atn.specs.Entries.{parse-pdus, parse-apdu, pdus, readFrame, settle};
 ghost use Rattle.answers.specs.Says.{Says};
-ghost use Rattle.answers.specs.declared.Answer.the-variants.{Refused};
 use answers::Answer;
+use answers::LONGEST_FRAME;
+use answers::refused;
 use cpdlc_frames::answer_frame;
 use cpdlc_frames::try_frame;
 use lent_tables::tables_fit;
@@ -14,9 +15,6 @@ use spare_words::CPDLC_SPARE;
 use verdicts::Verdict;
 use verdicts::after_bad;
 use verdicts::after_out;
-
-// The bytes of the longest frame.
-const LONGEST: usize = 65536;
 
 // A frame of so many bytes seldom has more records than these words hold, sixteen.
 const SHORT: usize = 12;
@@ -32,14 +30,14 @@ const MANY_SPARE: usize = 8192;
 pub fn parse_pdus(frame: &[u8], direction: u64, down: &[u8], up: &[u8], words: &mut [u64]) -> Answer
     ensures { λ r. ⌜ Says r (now (words .exit)) (parse-pdus (now (frame .entry)) direction (now (down .entry)) (now (up .entry)) (now (words .entry))) ⌝ }
 {
-    if LONGEST < frame.len() {
-        return refused(1);
+    if LONGEST_FRAME < frame.len() {
+        return refused(1, 0, 0, 0);
     }
     if !tables_fit(down, up) {
-        return refused(2);
+        return refused(2, 0, 0, 0);
     }
     if 1 < direction {
-        return refused(3);
+        return refused(3, 0, 0, 0);
     }
     if has_few(frame, direction) {
         let mut few = [0u64; FEW_SPARE];
@@ -74,11 +72,11 @@ fn parse_long(frame: &[u8], direction: u64, down: &[u8], up: &[u8], words: &mut 
 pub fn parse_apdu(frame: &[u8], down: &[u8], up: &[u8], words: &mut [u64]) -> Answer
     ensures { λ r. ⌜ Says r (now (words .exit)) (parse-apdu (now (frame .entry)) (now (down .entry)) (now (up .entry)) (now (words .entry))) ⌝ }
 {
-    if LONGEST < frame.len() {
-        return refused(1);
+    if LONGEST_FRAME < frame.len() {
+        return refused(1, 0, 0, 0);
     }
     if !tables_fit(down, up) {
-        return refused(2);
+        return refused(2, 0, 0, 0);
     }
     let mut spare = [0u64; CPDLC_SPARE];
     let v = try_frame(frame, &mut spare, 0, down, up);
@@ -121,16 +119,4 @@ fn has_many(frame: &[u8], at: usize) -> bool {
         return false;
     }
     head < 0x1_c000
-}
-
-// Before anything is read.
-fn refused(number: u64) -> Answer
-    ensures { λ r. ⌜ r ≡ Refused number 0 0 0 ⌝ }
-{
-    Answer::Refused {
-        number: number,
-        reach: 0,
-        need: 0,
-        lacked: 0,
-    }
 }

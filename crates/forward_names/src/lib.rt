@@ -8,6 +8,7 @@ ghost use Rattle.atn.specs.Reading.{Rec};
 ghost use Rattle.atn.specs.Entries.{accept, readFrame};
 ghost use Rattle.atn.specs.Messages.{groundPdus};
 ghost use Rattle.forward_names.specs.Names.{turned, nameIn, forward-name};
+use answers::LONGEST_FRAME;
 use cpdlc_frames::try_frame;
 use cpdlc_tags::AIRCRAFT_ID;
 use cursor::place::Cursor;
@@ -28,16 +29,13 @@ pub struct Named {
     pub size: u64,
 }
 
-// The bytes of the longest frame.
-const LONGEST: usize = 65536;
-
 // The index of the forward message among the uplink's alternatives.
 const FORWARD: u64 = 4;
 
 pub fn forward_name(frame: &[u8], down: &[u8], up: &[u8]) -> Named
     ensures { λ r. ⌜ r ≡ forward-name (now (frame .entry)) (now (down .entry)) (now (up .entry)) ⌝ }
 {
-    if LONGEST < frame.len() {
+    if LONGEST_FRAME < frame.len() {
         return no_name(1, 0, 0);
     }
     if !tables_fit(down, up) {

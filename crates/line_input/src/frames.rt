@@ -3,14 +3,13 @@ ghost use Prim.Native.Nat.{_≤_};
 ghost use lib.ListN.{length};
 ghost use Rattle.line_input.specs.Input.{Waits, Fills};
 use super::input::Input;
+use super::input::NEWLINE;
 use super::input::either;
 use super::input::empty;
 use super::input::filled;
 use bytes::scan::find;
 use hexadecimal::stretches::Digits;
 use hexadecimal::stretches::more;
-
-const NEWLINE: u8 = 10;
 
 // What there is of a line: its digits so far, without the newline; whether there was no line, at the end of the input or where a read failed; whether all of it was taken.
 pub struct Framed {

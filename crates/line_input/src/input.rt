@@ -7,7 +7,7 @@ ghost use Rattle.line_input.specs.Input.{Waits, Holds};
 use bytes::copy;
 use bytes::scan::find;
 
-const NEWLINE: u8 = 10;
+pub const NEWLINE: u8 = 10;
 
 // The lent bytes from `at` to `end` are read and not yet taken. After a read that failed nothing more is read, and standard error has said so.
 pub struct Input {

@@ -1,14 +1,12 @@
 // What is read, printed.
 ghost use Prim.Native.Nat.{_≤_};
+use answers::LONGEST_FRAME;
 use cursor::place::Cursor;
 use cursor::place::Got;
 use length_determinants::length;
 use length_determinants::small;
 use reader::bits_at;
 use reader::next;
-
-// The longest frame that the cursor reads.
-const LIMIT: usize = 65536;
 
 // A number of n bits, the first of the frame.
 pub fn first_number(label: &[u8], frame: &[u8], n: usize) -> Cursor
@@ -26,7 +24,7 @@ pub fn number(label: &[u8], frame: &[u8], c: Cursor, n: usize) -> Cursor
 
 // A normally small number.
 pub fn small_number(label: &[u8], frame: &[u8], c: Cursor) -> Cursor {
-    if LIMIT < frame.len() {
+    if LONGEST_FRAME < frame.len() {
         return c;
     }
     shown(label, small(frame, c))
@@ -40,7 +38,7 @@ fn shown(label: &[u8], g: Got) -> Cursor {
 
 // A length.
 pub fn size(label: &[u8], frame: &[u8], c: Cursor) -> Cursor {
-    if LIMIT < frame.len() {
+    if LONGEST_FRAME < frame.len() {
         return c;
     }
     let l = length(frame, c);
@@ -51,7 +49,7 @@ pub fn size(label: &[u8], frame: &[u8], c: Cursor) -> Cursor {
 
 // A string of any size: a length, and seven bits a character.
 pub fn string(label: &[u8], frame: &[u8], c: Cursor) -> Cursor {
-    if LIMIT < frame.len() {
+    if LONGEST_FRAME < frame.len() {
         return c;
     }
     let l = length(frame, c);

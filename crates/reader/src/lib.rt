@@ -3,6 +3,7 @@ ghost use mathlib.Core.Path.{_≡_};
 ghost use Prim.Native.Nat.{_≤_};
 ghost use lib.ListN.{length};
 ghost use Rattle.reader.specs.Reads.{opened, Took};
+use answers::LONGEST_FRAME;
 use cursor::place::Cursor;
 use cursor::place::Got;
 use cursor::place::bits;
@@ -19,7 +20,7 @@ pub struct Reader<'a> {
 pub fn start(s: &[u8], at: usize) -> Cursor
     ensures { λ r. ⌜ r ≡ opened (now (s .entry)) at ⌝ }
 {
-    if s.len() <= 65536 {
+    if s.len() <= LONGEST_FRAME {
         return Cursor {
             at: at,
             end: Octets(s.len()).bits().0,

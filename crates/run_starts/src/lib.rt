@@ -5,16 +5,14 @@ ghost use lib.ListN.{length};
 ghost use Rattle.message_runs.specs.Runs.{formatOf, cut, list-starts};
 ghost use Rattle.message_runs.specs.declared.Starts.the-variants.{Refused};
 ghost use Rattle.run_starts.specs.Walked.{Walked};
+use answers::LONGEST_FRAME;
 use clean_reaches::Reach;
 use clean_reaches::clean_reach;
 use lent_tables::tables_fit;
 use message_runs::Kind;
 use message_runs::Starts;
 
-// The bytes of the longest run.
-const LONGEST: usize = 65536;
-
-// direction 0 is the aircraft's message, 1 the ground's. The starts are bytes of the run, the first of them 0.
+// direction 0 is the aircraft's message, 1 the ground's. The starts are bytes of the run, the first of them 0. A run has at most the bytes of the longest frame.
 pub fn list_starts(
     kind: Kind,
     direction: u64,
@@ -25,7 +23,7 @@ pub fn list_starts(
 ) -> Starts
     ensures { λ r. ⌜ (r, now (starts .exit)) ≡ list-starts kind direction (now (down .entry)) (now (up .entry)) (now (run .entry)) (now (starts .entry)) ⌝ }
 {
-    if LONGEST < run.len() {
+    if LONGEST_FRAME < run.len() {
         return refused(1, 0);
     }
     if !tables_fit(down, up) {

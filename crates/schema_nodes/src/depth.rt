@@ -6,12 +6,13 @@ ghost use Prim.Native.Nat.{_+_, _≤_};
 ghost use lib.ListN.{length};
 ghost use Rattle.schema_tables.specs.Tests.{links-fit, within};
 ghost use Rattle.schema_nodes.specs.Depths.{Deepest};
+use super::DEEPEST;
 use super::node::count_of;
 use super::node::first_of;
 use super::node::node_at;
 
-// The depth of the deepest table.
-const DEEPEST: usize = 16;
+// The least depth that no table has.
+const TOO_DEEP: usize = DEEPEST + 1;
 
 // The nodes of a table whose depths are kept.
 const KEPT: usize = 4096;
@@ -25,7 +26,7 @@ pub fn depth_fits(nodes: &[u64]) -> bool
     if KEPT < n {
         return within(nodes, 0, DEEPEST);
     }
-    let mut depths = [0u64; KEPT];
+    let mut depths = [0usize; KEPT];
     let mut k = n;
     while k > 0 {
         k -= 1;
@@ -34,15 +35,15 @@ pub fn depth_fits(nodes: &[u64]) -> bool
         let first = first_of(node) as usize;
         depths[k] = 1 + deepest(&depths, first, count);
     }
-    depths[0] <= 16
+    depths[0] <= DEEPEST
 }
 
-// The greatest of so many depths, at most 17, from `first` on.
-fn deepest(depths: &[u64], first: usize, count: usize) -> u64
+// The greatest of so many depths, at most `TOO_DEEP`, from `first` on.
+fn deepest(depths: &[usize], first: usize, count: usize) -> usize
     requires { ⌜ (count ≡ 0) ⊎ (first + count ≤ length (now depths)) ⌝ }
     ensures { λ r. ⌜ Deepest (now (depths .entry)) first count r ⌝ }
 {
-    let mut d: u64 = 0;
+    let mut d: usize = 0;
     let mut i: usize = 0;
     while i < count {
         let e = depths[first + i];
@@ -51,10 +52,10 @@ fn deepest(depths: &[u64], first: usize, count: usize) -> u64
         }
         i += 1;
     }
-    if d < 17 {
+    if d < TOO_DEEP {
         return d;
     }
-    17
+    TOO_DEEP
 }
 
 // The depth of node k is at most `left`.

@@ -8,19 +8,15 @@ ghost use Rattle.schema_tables.specs.Entry.{top, capped, parse-by-table};
 ghost use Rattle.schema_tables.specs.Nodes.{meaning};
 ghost use Rattle.schema_walk.specs.Ready.{Ready};
 use answers::Answer;
+use answers::LONGEST_FRAME;
 use answers::accepted;
 use answers::refused;
 use cursor::place::Cursor;
 use per::units::Octets;
 use schema_leaves::Step;
+use schema_nodes::DEEPEST;
 use schema_nodes::refusal::refusal;
 use schema_walk::walk::read_node;
-
-// The bytes of the longest frame.
-const LONGEST: usize = 65536;
-
-// The depth of the deepest table.
-const DEEPEST: usize = 16;
 
 // The words of a record.
 const WORDS: usize = 5;
@@ -29,7 +25,7 @@ const WORDS: usize = 5;
 pub fn parse_by_table(frame: &[u8], nodes: &[u64], words: &mut [u64]) -> Answer
     ensures { λ r. ⌜ Says r (now (words .exit)) (parse-by-table (now (frame .entry)) (now (nodes .entry)) (now (words .entry))) ⌝ }
 {
-    if LONGEST < frame.len() {
+    if LONGEST_FRAME < frame.len() {
         return refused(1, 0, 0, 0);
     }
     let number = refusal(nodes);
