@@ -1,13 +1,13 @@
 // Lines of the programs that print: a line is put together in an array and written by one call. What does not fit is left out.
 mod answer; // answer.rt: an entry's answer with its records
 mod case; // case.rt: a case's line
-mod runs; // runs.rt: whether two lines are the same
+mod comparison; // comparison.rt: whether two lines are the same
 
 pub use answer::put_answer;
 pub use answer::put_records;
 pub use case::print_case;
 pub use case::put_octets;
-pub use runs::same;
+pub use comparison::same;
 
 // The most bytes of a line.
 const MOST: usize = 1024;

@@ -1,5 +1,4 @@
-// Records in lent words, one after another from the front. What is told goes through here, so no caller
-// knows how many words a record has.
+// Records in lent words, one after another from the front. What is told goes through here.
 ghost use Prim.Native.Nat.{_+_, _≤_, _<_, _^_};
 ghost use lib.ListN.{length};
 ghost use mathlib.Core.List.{[], _∷_};

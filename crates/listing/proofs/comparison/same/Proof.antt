@@ -1,8 +1,8 @@
--- `listing::runs::same` is safe and ends. The measure is what is left of the lines.
+-- `listing::comparison::same` is safe and ends. The measure is what is left of the lines.
 use Prim.Native.Nat.{_-_}
 use borrow.Author.Needs.{needs}
-use Rattle.listing.proofs.runs.same.Statement.{statement}
-use Rattle.listing.proofs.runs.same.Tie as tie
+use Rattle.listing.proofs.comparison.same.Statement.{statement}
+use Rattle.listing.proofs.comparison.same.Tie as tie
 
 abbrev Inv-loop : tie.InvT-loop
 Inv-loop one n other m i₀ i = Unit
