@@ -1,22 +1,35 @@
-use native.Mathlib.Omega.{arith}
+-- `put_leg` meets its contract: at once where there is ample room, else as a value.
 use borrow.Author.Needs.{needs}
-use Rattle.records.proofs.Telling.{told-then, told-length}
-use Rattle.optional_parts.proofs.PartLaws.{part-within, part-told, part-untold}
-use Rattle.leg_lists.proofs.ListLaws.{reads-placed}
+use borrow.Author.Tests.{not-false}
+use native.Mathlib.Omega.{arith}
+use Rattle.records.proofs.Telling.{told-then, room-next, room-behind}
+use Rattle.ample_readings.proofs.AmpleLaws.{ample-untold, room-of, room-fewer}
+use Rattle.atn.specs.Reading.{or}
+use Rattle.leg_lists.proofs.AmpleLegs.{part-untold-before, part-ample}
 use Rattle.leg_lists.proofs.put_leg.Statement.{statement}
 use Rattle.leg_lists.proofs.put_leg.Tie as tie
 
-returns : tie.Need-returns
-returns c = part-within (part-untold (reads-placed 96 (c .before .before .before .before .before .before .args .place) (c .before .before .before .read-leg .ensures .reads)) (c .if1 .taken)) 158 (omega arith)
+store-requires : tie.Need-store-requires
+store-requires c κs = let a = c .before .before .before .before .before in let h = c .before .before .is-ample .ensures (not-false (c .before .before .is-ample .result) (c .before .if1 .left)) in room-next _ (room-of 32 (a .args .n) (a .args .words .now) (omega (arith, h .4)) (omega arith) (h .5))
 
-tell-leg-requires : tie.Need-tell-leg-requires
-tell-leg-requires c κs = (omega (arith, c .before .before .before .before .before .before .before .before .before .before .before .pre, c .before .before .before .emit .ensures .few), c .before .before .before .before .before .before .before .before .read-leg .ensures .held)
-
-same-length : tie.Need-same-length
-same-length c = told-length (told-then (c .before .before .before .before .before .before .emit .ensures) (c .before .before .tell-leg .ensures))
+read-route-information-requires : tie.Need-read-route-information-requires
+read-route-information-requires c κs =
+    let b = c .before .before .before in
+    let a = b .before .before .before .before .before .before in
+    let h = b .before .before .before .is-ample .ensures (not-false (b .before .before .before .is-ample .result) (b .before .before .if1 .left)) in
+    let r = room-behind (room-of 32 (a .args .n) (a .args .words .now) (omega (arith, h .4)) (omega arith) (h .5)) (b .store .ensures) in
+    (omega (arith, b .store .ensures .few, h .4), room-fewer 31 r (omega arith), omega (arith, h .1, h .3), omega (arith, h .1, h .2))
 
 returns-2 : tie.Need-returns-2
-returns-2 c = part-told (reads-placed 96 (c .before .before .before .before .before .before .before .before .before .before .before .before .before .before .args .place) (c .before .before .before .before .before .before .before .before .before .before .before .read-leg .ensures .reads)) (c .before .before .before .before .before .before .before .before .if1 .left) (told-then (c .before .before .before .before .before .before .emit .ensures) (c .before .before .tell-leg .ensures))
+returns-2 c = part-untold-before (told-then (c .before .before .before .before .before .before .before .before .before .before .before .store .ensures) (ample-untold (c .before .before .before .before .before .before .before .read-route-information .ensures))) (c .before .before .put-value2 .ensures)
+
+returns-3 : tie.Need-returns-3
+unfolding or
+returns-3 c =
+    let b = c .before .before .before .before .before .before .before .before in
+    let a = b .before .before .before .before .before .before in
+    let h = b .before .before .before .is-ample .ensures (not-false (b .before .before .before .is-ample .result) (b .before .before .if1 .left)) in
+    part-ample (a .args .place) (h .0) (omega (arith, h .1)) (b .store .ensures) (c .before .before .before .before .read-route-information .ensures .done (c .before .if2 .left))
 
 pub put-leg-spec : {M : Type 1} → statement M
-put-leg-spec = tie.close (tie.spec (λ c κs. search needs) returns (λ c κs. search needs) tell-leg-requires same-length returns-2)
+put-leg-spec = tie.close (tie.spec (λ c κs. search needs) (λ c κs. search needs) (λ c. search needs) (λ c. search needs) store-requires read-route-information-requires (λ c κs. search needs) (λ c. search needs) returns-2 (λ c. search needs) returns-3)

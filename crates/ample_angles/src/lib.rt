@@ -1,0 +1,200 @@
+// Latitudes and longitudes whose bits are all ahead, at the top of a word: read and told at once.
+ghost use mathlib.Core.Path.{_≡_};
+ghost use mathlib.Core.List.{List};
+ghost use Prim.Native.Nat.{ℕ, _+_, _*_, _^_, _≤_, _<_};
+ghost use lib.ListN.{length};
+ghost use Rattle.x691.specs.Encoding.{width};
+ghost use Rattle.atn.specs.Format.{num, seq, end, _⨾_};
+ghost use Rattle.atn.specs.Messages as message;
+ghost use Rattle.records.specs.Space.{space};
+ghost use Rattle.ample_bits.specs.Ahead.{Ahead};
+ghost use Rattle.ample_readings.specs.Ample.{Ample};
+ghost use Rattle.ample_angles.specs.Angle.{angleOf};
+use ample_bits::ahead;
+use ample_bits::behind;
+use ample_bits::first;
+use ample_readings::Step;
+use ample_readings::above;
+use ample_readings::given_up;
+use cpdlc_tags::COORDINATES;
+use cpdlc_tags::LATITUDE;
+use cpdlc_tags::LONGITUDE;
+use field_ranges::table::LATITUDE_DEGREES;
+use field_ranges::table::LATITUDE_THOUSANDTHS;
+use field_ranges::table::LONGITUDE_DEGREES;
+use field_ranges::table::LONGITUDE_THOUSANDTHS;
+use records::store;
+
+// The numbers of an angle and its side, by its form. The tags of an angle follow one another from `tag` on: form, thousandths, degrees, hundredths, minutes, seconds, side.
+fn thousandths(
+    words: &mut [u64],
+    n: usize,
+    v: u64,
+    at: usize,
+    tag: u64,
+    most: u64,
+    wide: usize,
+) -> Step
+    requires { ⌜ (n < 2 ^ 31) × (space (n + 2) ≤ length (now words)) × (at < 2 ^ 61) × (tag < 256) × (most < 2 ^ 18) × (width most ≡ wide) × (1 ≤ wide) × (wide ≤ 18) ⌝ }
+    ensures { λ r. ⌜ ((s : List ℕ) → Ahead s at 22 v → Ample 2 19 (seq (num (tag + 1) 0 most ⨾ num (tag + 6) 0 1 ⨾ end)) s at n (now (words .entry)) (now (words .exit)) r) ⌝ }
+{
+    let x = first(v, wide);
+    let side = first(behind(v, wide), 1);
+    let p = at + wide;
+    let m = store(words, n, tag + 1, 0, x, 0, at);
+    let k = store(words, m, tag + 6, 0, side, 0, p);
+    let marks = above(x, most);
+    Step {
+        at: p + 1,
+        n: k,
+        marks: marks,
+    }
+}
+
+fn hundredths(
+    words: &mut [u64],
+    n: usize,
+    v: u64,
+    at: usize,
+    tag: u64,
+    most: u64,
+    narrow: usize,
+) -> Step
+    requires { ⌜ (n < 2 ^ 31) × (space (n + 3) ≤ length (now words)) × (at < 2 ^ 61) × (tag < 256) × (most < 256) × (width most ≡ narrow) × (1 ≤ narrow) × (narrow ≤ 8) ⌝ }
+    ensures { λ r. ⌜ ((s : List ℕ) → Ahead s at 22 v → Ample 3 22 (seq (seq (num (tag + 2) 0 most ⨾ num (tag + 3) 0 5999 ⨾ end) ⨾ num (tag + 6) 0 1 ⨾ end)) s at n (now (words .entry)) (now (words .exit)) r) ⌝ }
+{
+    let x = first(v, narrow);
+    let a = behind(v, narrow);
+    let y = first(a, 13);
+    let side = first(behind(a, 13), 1);
+    let p = at + narrow;
+    let m = store(words, n, tag + 2, 0, x, 0, at);
+    let k = store(words, m, tag + 3, 0, y, 0, p);
+    let l = store(words, k, tag + 6, 0, side, 0, p + 13);
+    let marks = above(x, most) | above(y, 5999);
+    Step {
+        at: p + 14,
+        n: l,
+        marks: marks,
+    }
+}
+
+fn seconds(
+    words: &mut [u64],
+    n: usize,
+    v: u64,
+    at: usize,
+    tag: u64,
+    most: u64,
+    narrow: usize,
+) -> Step
+    requires { ⌜ (n < 2 ^ 31) × (space (n + 4) ≤ length (now words)) × (at < 2 ^ 61) × (tag < 256) × (most < 256) × (width most ≡ narrow) × (1 ≤ narrow) × (narrow ≤ 8) ⌝ }
+    ensures { λ r. ⌜ ((s : List ℕ) → Ahead s at 22 v → Ample 4 21 (seq (seq (num (tag + 2) 0 most ⨾ num (tag + 4) 0 59 ⨾ num (tag + 5) 0 59 ⨾ end) ⨾ num (tag + 6) 0 1 ⨾ end)) s at n (now (words .entry)) (now (words .exit)) r) ⌝ }
+{
+    let x = first(v, narrow);
+    let a = behind(v, narrow);
+    let y = first(a, 6);
+    let b = behind(a, 6);
+    let z = first(b, 6);
+    let side = first(behind(b, 6), 1);
+    let p = at + narrow;
+    let m = store(words, n, tag + 2, 0, x, 0, at);
+    let k = store(words, m, tag + 4, 0, y, 0, p);
+    let l = store(words, k, tag + 5, 0, z, 0, p + 6);
+    let o = store(words, l, tag + 6, 0, side, 0, p + 12);
+    let marks = above(x, most) | (above(y, 59) | above(z, 59));
+    Step {
+        at: p + 13,
+        n: o,
+        marks: marks,
+    }
+}
+
+// An angle by the most of its thousandths and of its degrees, and the bits that these take. A form that is not listed is given up.
+fn angle(
+    words: &mut [u64],
+    n: usize,
+    v: u64,
+    at: usize,
+    tag: u64,
+    most: u64,
+    wide: usize,
+    degrees: u64,
+    narrow: usize,
+) -> Step
+    requires { ⌜ (n < 2 ^ 30) × (space (n + 5) ≤ length (now words)) × (at < 2 ^ 60) × (tag < 256) × (most < 2 ^ 18) × (width most ≡ wide) × (1 ≤ wide) × (wide ≤ 18) × (degrees < 256) × (width degrees ≡ narrow) × (1 ≤ narrow) × (narrow ≤ 8) ⌝ }
+    ensures { λ r. ⌜ ((s : List ℕ) → Ahead s at 24 v → Ample 5 24 (angleOf tag most degrees) s at n (now (words .entry)) (now (words .exit)) r) ⌝ }
+{
+    let form = first(v, 2);
+    let a = behind(v, 2);
+    let m = store(words, n, tag, 0, form, 0, at);
+    if form == 0 {
+        return thousandths(words, m, a, at + 2, tag, most, wide);
+    }
+    if form == 1 {
+        return hundredths(words, m, a, at + 2, tag, degrees, narrow);
+    }
+    if form == 2 {
+        return seconds(words, m, a, at + 2, tag, degrees, narrow);
+    }
+    given_up()
+}
+
+fn latitude(s: &[u8], words: &mut [u64], n: usize, at: usize) -> Step
+    requires { ⌜ (n < 2 ^ 30) × (space (n + 5) ≤ length (now words)) × (at < 2 ^ 60) × (at + 64 ≤ length (now s) * 8) ⌝ }
+    ensures { λ r. ⌜ Ample 5 24 message.latitude (now (s .entry)) at n (now (words .entry)) (now (words .exit)) r ⌝ }
+{
+    let v = ahead(s, at);
+    let most = LATITUDE_THOUSANDTHS.extent();
+    let wide = LATITUDE_THOUSANDTHS.width();
+    let degrees = LATITUDE_DEGREES.extent();
+    let narrow = LATITUDE_DEGREES.width();
+    angle(words, n, v, at, LATITUDE, most, wide, degrees, narrow)
+}
+
+fn longitude(s: &[u8], words: &mut [u64], n: usize, at: usize) -> Step
+    requires { ⌜ (n < 2 ^ 30) × (space (n + 5) ≤ length (now words)) × (at < 2 ^ 60) × (at + 64 ≤ length (now s) * 8) ⌝ }
+    ensures { λ r. ⌜ Ample 5 24 message.longitude (now (s .entry)) at n (now (words .entry)) (now (words .exit)) r ⌝ }
+{
+    let v = ahead(s, at);
+    let most = LONGITUDE_THOUSANDTHS.extent();
+    let wide = LONGITUDE_THOUSANDTHS.width();
+    let degrees = LONGITUDE_DEGREES.extent();
+    let narrow = LONGITUDE_DEGREES.width();
+    angle(words, n, v, at, LONGITUDE, most, wide, degrees, narrow)
+}
+
+// Latitude and longitude, each of which may be absent.
+pub fn read_pair(s: &[u8], words: &mut [u64], n: usize, at: usize) -> Step
+    requires { ⌜ (n < 2 ^ 29) × (space (n + 11) ≤ length (now words)) × (at < 2 ^ 59) × (at + 96 ≤ length (now s) * 8) ⌝ }
+    ensures { λ r. ⌜ Ample 11 50 message.latlon (now (s .entry)) at n (now (words .entry)) (now (words .exit)) r ⌝ }
+{
+    let has = first(ahead(s, at), 2);
+    let m = store(words, n, COORDINATES, 0, 0, 0, at);
+    if has == 0 {
+        return Step {
+            at: at + 2,
+            n: m,
+            marks: 0,
+        };
+    }
+    if has == 1 {
+        return longitude(s, words, m, at + 2);
+    }
+    let x = latitude(s, words, m, at + 2);
+    if has == 2 {
+        return x;
+    }
+    let p = x.at;
+    let k = x.n;
+    let marks = x.marks;
+    if p == 0 {
+        return x;
+    }
+    let y = longitude(s, words, k, p);
+    Step {
+        at: y.at,
+        n: y.n,
+        marks: marks | y.marks,
+    }
+}

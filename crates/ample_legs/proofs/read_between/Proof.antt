@@ -1,0 +1,29 @@
+use borrow.Author.Needs.{needs}
+use native.Mathlib.Omega.{arith}
+use Rattle.atn.specs.Reading.{or}
+use Rattle.ample_readings.proofs.SureLaws.{sure-two}
+use Rattle.ample_readings.proofs.AmpleLaws.{ample-after, ample-none, ample-untold, room-of, room-fewer, room-after}
+use Rattle.ample_legs.proofs.read_between.Statement.{statement}
+use Rattle.ample_legs.proofs.read_between.Tie as tie
+
+read-bearing-requires : tie.Need-read-bearing-requires
+read-bearing-requires c κs =
+    let a = c .before .before .before in
+    (omega (arith, a .pre .0), room-fewer 15 (room-of 30 (a .args .n) (a .args .words .now) (omega (arith, a .pre .0)) (omega arith) (a .pre .1)) (omega arith), omega (arith, a .pre .2), omega (arith, a .pre .3))
+
+returns : tie.Need-returns
+returns c = ample-none (ample-untold (c .before .before .before .read-bearing .ensures)) (c .if1 .taken)
+
+read-bearing-requires-2 : tie.Need-read-bearing-requires-2
+read-bearing-requires-2 c κs =
+    let b = c .before .before .before .before in
+    let a = b .before .before .before .before in
+    let d = b .read-bearing .ensures .done (c .before .if1 .left) in
+    (omega (arith, a .pre .0, d .told .few), room-after 15 (room-of 30 (a .args .n) (a .args .words .now) (omega (arith, a .pre .0)) (omega arith) (a .pre .1)) (d .told) (omega arith), omega (arith, a .pre .2, d .near), omega (arith, a .pre .3, d .near))
+
+returns-2 : tie.Need-returns-2
+unfolding or
+returns-2 c = ample-after (c .before .before .before .before .before .before .before .before .read-bearing .ensures .done (c .before .before .before .before .before .if1 .left)) (c .before .before .before .read-bearing2 .ensures) (omega arith) (omega arith) (λ R S y z i. sure-two (y 1) (z 2))
+
+pub read-between-spec : {M : Type 1} → statement M
+read-between-spec = tie.close (tie.spec read-bearing-requires (λ c. search needs) returns read-bearing-requires-2 (λ c. search needs) returns-2)

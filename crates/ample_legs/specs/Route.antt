@@ -1,0 +1,16 @@
+-- What a leg says behind its place in the clearance: `leg` of crates/atn/specs/Messages.antt without that place.
+use Rattle.atn.specs.Format.{Fmt, Alts, many, seq, choice, end, _⨾_, none-left, _∥_}
+use Rattle.atn.specs.Messages as message
+use Rattle.atn.specs.Tags as tag
+
+abbrev pub legs : Alts
+legs =
+    message.published
+    ∥ message.latlon
+    ∥ many 2 2 (seq (message.published ⨾ message.degrees ⨾ end))
+    ∥ seq (message.published ⨾ message.degrees ⨾ message.unsupplied ⨾ end)
+    ∥ message.ia5 tag.route-designator 2 7
+    ∥ none-left
+
+abbrev pub routeInformation : Fmt
+routeInformation = choice tag.route-information legs

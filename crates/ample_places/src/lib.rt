@@ -1,0 +1,159 @@
+// Named and published places, bearings and designators whose bits are all ahead: read and told at once.
+ghost use mathlib.Core.Path.{_≡_};
+ghost use mathlib.Core.List.{List};
+ghost use Prim.Native.Nat.{ℕ, _+_, _-_, _*_, _^_, _≤_, _<_};
+ghost use lib.ListN.{length};
+ghost use Rattle.x691.specs.Bits.{bitOf};
+ghost use Rattle.x691.specs.Encoding.{width};
+ghost use Rattle.atn.specs.Format.{seq, end, _⨾_};
+ghost use Rattle.atn.specs.Messages as message;
+ghost use Rattle.atn.specs.Reading.{pack, units};
+ghost use Rattle.records.specs.Space.{space};
+ghost use Rattle.records.specs.Told.{Told};
+ghost use Rattle.ample_readings.specs.Ample.{Ample};
+use ample_angles::read_pair;
+use ample_bits::ahead;
+use ample_bits::behind;
+use ample_bits::first;
+use ample_readings::Step;
+use ample_readings::above;
+use ample_readings::given_up;
+use character_strings::Text;
+use cpdlc_tags::DEGREES;
+use cpdlc_tags::DEGREES_NUMBER;
+use cpdlc_tags::PUBLISHED;
+use cpdlc_tags::PUBLISHED_FIX;
+use cpdlc_tags::PUBLISHED_NAVAID;
+use cpdlc_tags::ROUTE_DESIGNATOR;
+use field_ranges::table::FIX_SIZE;
+use field_ranges::table::NAVAID_SIZE;
+use records::store;
+use tell::tell_text;
+
+// A text of at most eight characters, from `at` on, of a field that starts at `from`: one record.
+fn short_text(
+    s: &[u8],
+    words: &mut [u64],
+    n: usize,
+    tag: u64,
+    from: usize,
+    at: usize,
+    len: usize,
+) -> usize
+    requires { ⌜ (n < 2 ^ 30) × (1 ≤ len) × (len ≤ 8) × (at < 2 ^ 60) × (at + 56 ≤ length (now s) * 8) ⌝ }
+    ensures { λ m. ⌜ Told 1 (now (words .entry)) (now (words .exit)) n m (pack tag 0 from (units (bitOf (now (s .entry))) 7 at len)) ⌝ }
+{
+    let x = Text {
+        from: from,
+        at: at,
+        len: len,
+    };
+    tell_text(words, n, tag, 0, s, x)
+}
+
+// A name whose size is from 1 to the most, and its coordinates, which may be absent.
+fn read_named(
+    s: &[u8],
+    words: &mut [u64],
+    n: usize,
+    at: usize,
+    tag: u64,
+    most: usize,
+    wide: usize,
+) -> Step
+    requires { ⌜ (n < 2 ^ 28) × (space (n + 12) ≤ length (now words)) × (at < 2 ^ 58) × (at + 160 ≤ length (now s) * 8) × (most ≤ 8) × (width (most - 1) ≡ wide) × (1 ≤ wide) × (wide ≤ 3) ⌝ }
+    ensures { λ r. ⌜ Ample 12 110 (message.named tag most) (now (s .entry)) at n (now (words .entry)) (now (words .exit)) r ⌝ }
+{
+    let v = ahead(s, at);
+    let has = first(v, 1);
+    let raw = first(behind(v, 1), wide);
+    let size = raw as usize + 1;
+    let from = at + 1;
+    let p = from + wide;
+    let m = short_text(s, words, n, tag, from, p, size);
+    let q = p + size * 7;
+    let marks = above(size as u64, most as u64);
+    if has == 0 {
+        return Step {
+            at: q,
+            n: m,
+            marks: marks,
+        };
+    }
+    let x = read_pair(s, words, m, q);
+    Step {
+        at: x.at,
+        n: x.n,
+        marks: marks | x.marks,
+    }
+}
+
+pub fn read_published(s: &[u8], words: &mut [u64], n: usize, at: usize) -> Step
+    requires { ⌜ (n < 2 ^ 27) × (space (n + 13) ≤ length (now words)) × (at < 2 ^ 57) × (at + 168 ≤ length (now s) * 8) ⌝ }
+    ensures { λ r. ⌜ Ample 13 111 message.published (now (s .entry)) at n (now (words .entry)) (now (words .exit)) r ⌝ }
+{
+    let kind = first(ahead(s, at), 1);
+    let m = store(words, n, PUBLISHED, 0, kind, 0, at);
+    if kind == 0 {
+        let wide = FIX_SIZE.width();
+        return read_named(s, words, m, at + 1, PUBLISHED_FIX, 5, wide);
+    }
+    let wide = NAVAID_SIZE.width();
+    read_named(s, words, m, at + 1, PUBLISHED_NAVAID, 4, wide)
+}
+
+pub fn read_degrees(s: &[u8], words: &mut [u64], n: usize, at: usize) -> Step
+    requires { ⌜ (n < 2 ^ 30) × (space (n + 2) ≤ length (now words)) × (at < 2 ^ 60) × (at + 64 ≤ length (now s) * 8) ⌝ }
+    ensures { λ r. ⌜ Ample 2 10 message.degrees (now (s .entry)) at n (now (words .entry)) (now (words .exit)) r ⌝ }
+{
+    let v = ahead(s, at);
+    let kind = first(v, 1);
+    let raw = first(behind(v, 1), 9);
+    let m = store(words, n, DEGREES, 0, kind, 0, at);
+    let k = store(words, m, DEGREES_NUMBER, 0, raw + 1, 0, at + 1);
+    let marks = above(raw, 359);
+    Step {
+        at: at + 10,
+        n: k,
+        marks: marks,
+    }
+}
+
+// A place with its bearing.
+pub fn read_bearing(s: &[u8], words: &mut [u64], n: usize, at: usize) -> Step
+    requires { ⌜ (n < 2 ^ 26) × (space (n + 15) ≤ length (now words)) × (at < 2 ^ 56) × (at + 176 ≤ length (now s) * 8) ⌝ }
+    ensures { λ r. ⌜ Ample 15 121 (seq (message.published ⨾ message.degrees ⨾ end)) (now (s .entry)) at n (now (words .entry)) (now (words .exit)) r ⌝ }
+{
+    let x = read_published(s, words, n, at);
+    let p = x.at;
+    let k = x.n;
+    let marks = x.marks;
+    if p == 0 {
+        return x;
+    }
+    let y = read_degrees(s, words, k, p);
+    Step {
+        at: y.at,
+        n: y.n,
+        marks: marks | y.marks,
+    }
+}
+
+// The designator of a route. One of nine characters, which is above its range and takes two records, is given up.
+pub fn read_designator(s: &[u8], words: &mut [u64], n: usize, at: usize) -> Step
+    requires { ⌜ (n < 2 ^ 30) × (at < 2 ^ 59) × (at + 64 ≤ length (now s) * 8) ⌝ }
+    ensures { λ r. ⌜ Ample 1 59 (message.ia5 101 2 7) (now (s .entry)) at n (now (words .entry)) (now (words .exit)) r ⌝ }
+{
+    let raw = first(ahead(s, at), 3);
+    if raw == 7 {
+        return given_up();
+    }
+    let size = raw as usize + 2;
+    let m = short_text(s, words, n, ROUTE_DESIGNATOR, at, at + 3, size);
+    let marks = above(size as u64, 7);
+    Step {
+        at: at + 3 + size * 7,
+        n: m,
+        marks: marks,
+    }
+}
