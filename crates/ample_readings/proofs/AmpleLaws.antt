@@ -9,7 +9,7 @@ use Rattle.x691.specs.Bits.{bitOf, uint}
 use Rattle.x691.specs.Types.{extent}
 use Rattle.x691.specs.Encoding.{width}
 use Rattle.per.proofs.Laws.{uint-below-wide}
-use Rattle.atn.specs.Format.{Fmt, num}
+use Rattle.atn.specs.Format.{Fmt, Flds, num}
 use Rattle.atn.specs.Reading.{Rec, rec, Ctx, over}
 use Rattle.atn.specs.Entries.{flat}
 use Rattle.records.specs.Space.{space}
@@ -19,8 +19,8 @@ use Rattle.records.proofs.Telling.{Room, told-then, told-within}
 use Rattle.ample_bits.specs.Ahead.{Ahead}
 use Rattle.ample_bits.proofs.AheadLaws.{first-spelt}
 use Rattle.ample_readings.specs.declared.Step.{Step}
-use Rattle.ample_readings.specs.Sure.{Sure}
-use Rattle.ample_readings.specs.Ample.{Done, Ample}
+use Rattle.ample_readings.specs.Sure.{Sure, SureFields}
+use Rattle.ample_readings.specs.Ample.{Done, DoneFields, Ample}
 use Rattle.ample_readings.proofs.SureLaws.{sure-num}
 
 extent-zero : (hi : ℕ) → hi < 2 ^ 64 → extent 0 hi ≡ hi
@@ -37,6 +37,9 @@ ahead-num {x} {s} {p} {j} {v} {y} t hi w h q a l e =
 module _ {b j : ℕ} {f : Fmt} {s : List ℕ} {at n : ℕ} {w w′ : List ℕ} {r : Step} where
   pub ample-done : Done b j f s at n w w′ r → Ample b j f s at n w w′ r
   ample-done d = record { room = d .told .room; before = d .told .before; done = λ _. d }
+
+  pub done-of : {R : List Rec} → ((i : ℕ) → Sure f (0, i) s at (r .at) R (r .marks)) → r .at ≤ at + j → Told b w w′ n (r .n) R → Done b j f s at n w w′ r
+  done-of y l t = record { recs = _; sure = y; near = l; told = t }
 
   -- given up, nothing was told
   pub ample-untold : Ample b j f s at n w w′ r → Told 0 w w′ n n []
@@ -84,3 +87,6 @@ ample-after {c = c} d x l o h =
       before = u .before;
       done = λ z. (let y = x .done z in record { recs = _; sure = h (d .recs) (y .recs) (d .sure) (y .sure); near = omega (arith, d .near, y .near); told = told-within c l (told-then (d .told) (y .told)) });
     }
+
+pub done-fields : {b j : ℕ} {fs : Flds} {s : List ℕ} {at n : ℕ} {w w′ : List ℕ} {r : Step} {R : List Rec} → ((i q : ℕ) → SureFields fs (0, i) s q at (r .at) R (r .marks)) → r .at ≤ at + j → Told b w w′ n (r .n) R → DoneFields b j fs s at n w w′ r
+done-fields y l t = record { recs = _; sure = y; near = l; told = t }

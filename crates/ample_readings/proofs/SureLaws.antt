@@ -16,15 +16,10 @@ use Rattle.atn.proofs.Steps.{fetch-go, pull-go, then-nil, glue-nil}
 use Rattle.atn.proofs.Then.{glue-then}
 use Rattle.cursor.proofs.FormatLaws.{allRead, read-unmarked}
 use Rattle.character_strings.proofs.TextLaws.{letters-all, coded-nil}
-use Rattle.ample_readings.specs.Sure.{Sure}
-
--- the same of fields, of which q is the next presence bit
-pub record SureFields (fs : Flds) (x : Ctx) (s : List ℕ) (q at p : ℕ) (R : List Rec) (m : ℕ) : Type 0 where
-  pub forth : at ≤ p
-  pub gives : (e : ℕ) → p ≤ e → readFields fs x (bitOf s) e q at ≡ ok p R m
+use Rattle.ample_readings.specs.Sure.{Sure, SureFields}
 
 -- a sequence without presence bits is its fields
-plain-read : (x : Ctx) (s : List ℕ) (fs : Flds) → flags fs ≡ 0 → allRead fs ≡ true → (e at : ℕ) → at ≤ e → read (seq fs) x (bitOf s) e at ≡ readFields fs x (bitOf s) e at at
+pub plain-read : (x : Ctx) (s : List ℕ) (fs : Flds) → flags fs ≡ 0 → allRead fs ≡ true → (e at : ℕ) → at ≤ e → read (seq fs) x (bitOf s) e at ≡ readFields fs x (bitOf s) e at at
 unfolding read
 plain-read x s fs p a e at h =
     rw p (fetch-go (bitOf s) e at 0 _ _ (omega arith) ∙ rw (read-unmarked fs (bitOf s) at a) (then-nil (at + 0) (λ q. readFields fs x (bitOf s) e at q) ∙ ap (λ (z : ℕ). readFields fs x (bitOf s) e at z) (add-zero at)))

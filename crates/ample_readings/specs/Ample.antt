@@ -3,17 +3,24 @@ use mathlib.Core.Path.{_≡_}
 use mathlib.Core.List.{List}
 use Prim.Native.Nat.{ℕ, _+_, _≤_}
 use lib.ListN.{length, take}
-use Rattle.atn.specs.Format.{Fmt}
+use Rattle.atn.specs.Format.{Fmt, Flds}
 use Rattle.atn.specs.Reading.{Rec}
 use Rattle.records.specs.Space.{space}
 use Rattle.records.specs.Told.{Told}
 use Rattle.ample_readings.specs.declared.Step.{Step}
-use Rattle.ample_readings.specs.Sure.{Sure}
+use Rattle.ample_readings.specs.Sure.{Sure, SureFields}
 
 -- the format f, outside the elements, was read from `at` on, j bits at most, and its records were told behind n others, b at most
 pub record Done (b j : ℕ) (f : Fmt) (s : List ℕ) (at n : ℕ) (w w′ : List ℕ) (r : Step) : Type 0 where
   pub recs : List Rec
   pub sure : (i : ℕ) → Sure f (0, i) s at (r .at) recs (r .marks)
+  pub near : r .at ≤ at + j
+  pub told : Told b w w′ n (r .n) recs
+
+-- the same of the last fields of a sequence, which have no presence bits
+pub record DoneFields (b j : ℕ) (fs : Flds) (s : List ℕ) (at n : ℕ) (w w′ : List ℕ) (r : Step) : Type 0 where
+  pub recs : List Rec
+  pub sure : (i q : ℕ) → SureFields fs (0, i) s q at (r .at) recs (r .marks)
   pub near : r .at ≤ at + j
   pub told : Told b w w′ n (r .n) recs
 

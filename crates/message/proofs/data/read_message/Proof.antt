@@ -1,30 +1,25 @@
-use mathlib.Core.Path.{refl}
-use native.Mathlib.Omega.{arith}
+-- `read_message` meets its contract: its header at once where there is ample room, else field by field.
 use borrow.Author.Needs.{needs}
-use Rattle.records.proofs.Telling.{told-length, told-then}
-use Rattle.runs.proofs.RunLaws.{runs-within}
-use Rattle.message.proofs.DataLaws.{message-read}
+use borrow.Author.Tests.{not-false}
+use native.Mathlib.Omega.{arith}
+use Rattle.atn.specs.Reading.{or}
+use Rattle.message.proofs.AmpleHeader.{message-ample}
 use Rattle.message.proofs.data.read_message.Statement.{statement}
 use Rattle.message.proofs.data.read_message.Tie as tie
 
-maybe-number-field-requires : tie.Need-maybe-number-field-requires
-maybe-number-field-requires c κs = (refl, omega (arith, c .before .before .before .before .before .before .before .before .before .before .before .pre .0, c .before .before .before .before .number-field .ensures .told .few))
+read-header-requires : tie.Need-read-header-requires
+read-header-requires c κs =
+    let a = c .before .before .before .before .before .before in
+    let h = c .before .before .is-ample .ensures (not-false (c .before .before .is-ample .result) (c .before .if1 .left)) in
+    (omega (arith, a .pre .0), h .4, omega (arith, h .3), h .2)
 
-date-time-field-requires : tie.Need-date-time-field-requires
-date-time-field-requires c κs = omega (arith, c .before .before .before .before .before .before .before .before .before .before .before .before .before .before .before .pre .0, c .before .before .before .before .before .before .before .before .number-field .ensures .told .few, c .before .before .before .maybe-number-field .ensures .told .few)
-
-acknowledgment-field-requires : tie.Need-acknowledgment-field-requires
-acknowledgment-field-requires c κs = omega (arith, c .before .before .before .before .before .before .before .before .before .before .before .before .before .before .before .before .before .before .before .before .pre .0, c .before .before .before .before .before .before .before .before .before .before .before .before .before .number-field .ensures .told .few, c .before .before .before .before .before .before .before .before .maybe-number-field .ensures .told .few, c .before .before .before .before .date-time-field .ensures .told .few)
-
-read-data-requires : tie.Need-read-data-requires
-read-data-requires c κs = (omega (arith, c .before .before .before .before .before .before .before .before .before .before .before .before .before .before .before .before .before .before .before .before .before .before .before .before .pre .0, c .before .before .before .before .before .before .before .before .before .before .before .before .before .before .before .before .before .number-field .ensures .told .few, c .before .before .before .before .before .before .before .before .before .before .before .before .maybe-number-field .ensures .told .few, c .before .before .before .before .before .before .before .before .date-time-field .ensures .told .few, c .before .before .before .acknowledgment-field .ensures .told .few), c .before .before .before .before .before .before .before .before .before .before .before .before .before .before .before .before .before .before .before .before .before .before .before .before .pre .1, c .before .before .before .before .before .before .before .before .before .before .before .before .before .before .before .before .before .before .before .before .before .before .before .before .pre .2)
-
-same-length : tie.Need-same-length
-same-length c = told-length (told-then (c .before .before .before .before .before .before .before .before .before .before .before .before .before .before .before .before .before .before .before .before .number-field .ensures .told) (told-then (c .before .before .before .before .before .before .before .before .before .before .before .before .before .before .before .maybe-number-field .ensures .told) (told-then (c .before .before .before .before .before .before .before .before .before .before .before .date-time-field .ensures .told) (told-then (c .before .before .before .before .before .before .acknowledgment-field .ensures .told) (c .before .before .read-data .ensures .told)))))
-
-returns : tie.Need-returns
-returns c = message-read _ (c .before .before .before .before .before .before .before .before .before .before .before .before .before .before .before .before .before .before .before .before .before .before .before .presence .ensures) (c .before .before .before .before .before .before .before .before .before .before .before .before .before .before .before .before .before .before .before .before .number-field .ensures) (c .before .before .before .before .before .before .before .before .before .before .before .before .before .before .before .maybe-number-field .ensures) (c .before .before .before .before .before .before .before .before .before .before .before .date-time-field .ensures) (c .before .before .before .before .before .before .acknowledgment-field .ensures) (c .before .before .read-data .ensures)
+returns-2 : tie.Need-returns-2
+unfolding or
+returns-2 c =
+    let b = c .before .before .before .before .before .before .before in
+    let a = b .before .before .before .before .before .before .before in
+    let h = b .before .before .before .is-ample .ensures (not-false (b .before .before .before .is-ample .result) (b .before .before .if1 .left)) in
+    message-ample (a .args .table .now) (h .0) (h .1) (b .read-header .ensures) (c .before .before .read-data .ensures)
 
 pub read-message-spec : {M : Type 1} → statement M
-read-message-spec =
-    tie.close (tie.spec (λ c κs. search needs) (λ c κs. search needs) maybe-number-field-requires date-time-field-requires acknowledgment-field-requires read-data-requires same-length returns)
+read-message-spec = tie.close (tie.spec (λ c κs. search needs) (λ c κs. search needs) (λ c. search needs) (λ c. search needs) read-header-requires (λ c κs. search needs) (λ c. search needs) returns-2)
