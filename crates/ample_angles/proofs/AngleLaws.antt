@@ -1,14 +1,13 @@
 -- The numbers of an angle at the top of a word, as their formats read them.
-use mathlib.Core.Path.{_≡_, refl, sym, ap, _∙_}
-use mathlib.Core.Bool.{true}
+use mathlib.Core.Path.{_≡_, refl, _∙_}
 use mathlib.Core.List.{List, [], _∷_, _++_}
-use Prim.Native.Nat.{ℕ, zero, suc, _+_, _-_, _*_, _/_, _%_, _^_, _≤_, _<_}
+use Prim.Native.Nat.{ℕ, _+_, _-_, _*_, _/_, _%_, _^_, _≤_, _<_}
 use native.Mathlib.Omega.{arith}
 use Rattle.x691.specs.Bits.{bitOf, uint}
 use Rattle.x691.specs.Types.{extent}
 use Rattle.x691.specs.Encoding.{width, widthIn, highest, count}
 use Rattle.per.proofs.Laws.{uint-below}
-use Rattle.atn.specs.Format.{Fmt, Alts, num, seq, choice, end, _⨾_}
+use Rattle.atn.specs.Format.{Fmt, num, seq, end, _⨾_}
 use Rattle.atn.specs.Reading.{Rec, rec, Ctx, over, or, flags, read, readChoice}
 use Rattle.atn.specs.Messages as message
 use Rattle.records.specs.Told.{Told}

@@ -1,11 +1,10 @@
 -- A pair by its presence bits: what is surely read of it, from its angles.
-use mathlib.Core.Path.{_≡_, refl, sym, ap, _∙_}
+use mathlib.Core.Path.{_≡_, refl}
 use mathlib.Core.List.{List, [], _∷_, _++_, append-nil}
-use Prim.Native.Nat.{ℕ, zero, suc, _+_, _*_, _^_, _≤_, _<_}
+use Prim.Native.Nat.{ℕ, suc, _+_, _*_, _<_}
 use native.Mathlib.Omega.{arith}
 use Rattle.x691.specs.Bits.{bitOf, uint}
 use Rattle.x691.proofs.BitLaws.{bitOf-lt}
-use Rattle.atn.specs.Format.{Fmt}
 use Rattle.atn.specs.Reading.{Rec, rec, Ctx, or, flags}
 use Rattle.atn.specs.Messages as message
 use Rattle.atn.proofs.Marks.{or-nil}

@@ -1,9 +1,9 @@
 -- What is cut off a word that has bits at its top.
-use mathlib.Core.Path.{_≡_, refl, sym, ap, _∙_}
+use mathlib.Core.Path.{_≡_, sym, ap, _∙_}
 use mathlib.Core.List.{List}
-use Prim.Native.Nat.{ℕ, zero, suc, _+_, _-_, _*_, _/_, _%_, _^_, _≤_, _<_}
+use Prim.Native.Nat.{ℕ, _+_, _-_, _*_, _/_, _%_, _^_, _≤_}
 use native.Mathlib.Omega.{arith}
-use lib.Pow.{pow-add, shr-shr, shl-shr, field, high, low}
+use lib.Pow.{shr-shr, shl-shr, field, high, low}
 use Rattle.x691.specs.Bits.{bitOf, uint}
 use Rattle.per.proofs.Laws.{uint-below, uint-split}
 use Rattle.ample_bits.specs.Ahead.{Ahead}

@@ -1,7 +1,7 @@
 -- Bits at the top of a word.
 use mathlib.Core.Path.{_≡_}
 use mathlib.Core.List.{List}
-use Prim.Native.Nat.{ℕ, _-_, _/_, _^_, _≤_, _<_}
+use Prim.Native.Nat.{ℕ, _-_, _/_, _^_, _≤_}
 use Rattle.x691.specs.Bits.{bitOf, uint}
 
 -- the first j bits of the word v are those of the frame s from p on

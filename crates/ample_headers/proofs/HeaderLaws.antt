@@ -1,5 +1,5 @@
 -- The numbers of a date and time at the top of a word, as their formats read them.
-use mathlib.Core.Path.{_≡_, refl, sym, ap, _∙_}
+use mathlib.Core.Path.{_≡_, refl, _∙_}
 use mathlib.Core.List.{List, [], _∷_, _++_}
 use Prim.Native.Nat.{ℕ, zero, suc, _+_, _-_, _*_, _/_, _%_, _^_, _≤_, _<_}
 use native.Mathlib.Omega.{arith}
@@ -7,9 +7,8 @@ use Rattle.x691.specs.Bits.{bitOf, uint}
 use Rattle.x691.specs.Types.{extent}
 use Rattle.x691.specs.Encoding.{width, widthIn}
 use Rattle.per.proofs.Laws.{uint-below-wide}
-use Rattle.atn.specs.Format.{num, noted, null, seq, end, _⨾_}
-use Rattle.atn.specs.Reading.{Rec, rec, Ctx, ok, over, or, flags, read}
-use Rattle.atn.specs.Messages.{dateTimeGroup}
+use Rattle.atn.specs.Format.{num, null, seq, _⨾_}
+use Rattle.atn.specs.Reading.{Rec, rec, Ctx, over, or, flags, read}
 use Rattle.atn.proofs.Marks.{or-nil}
 use Rattle.atn.proofs.Steps.{over-in}
 use Rattle.per.proofs.Laws.{uint-below}

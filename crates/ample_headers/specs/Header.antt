@@ -1,5 +1,5 @@
 -- The header of a message behind its presence bits, by these bits: what is there of it as one sequence.
-use Prim.Native.Nat.{ℕ, zero, suc, _%_}
+use Prim.Native.Nat.{ℕ, zero, suc}
 use Rattle.atn.specs.Format.{Fmt, Flds, num, noted, null, seq, end, _⨾_}
 use Rattle.atn.specs.Messages.{dateTimeGroup}
 use Rattle.atn.specs.Tags as tag

@@ -1,10 +1,9 @@
 // The header of a message whose bits are all ahead, at the top of a word: read and told at once.
 ghost use mathlib.Core.Path.{_≡_};
 ghost use mathlib.Core.List.{List};
-ghost use Prim.Native.Nat.{ℕ, _+_, _*_, _/_, _^_, _≤_, _<_};
+ghost use Prim.Native.Nat.{ℕ, _+_, _/_, _^_, _≤_, _<_};
 ghost use lib.ListN.{length};
 ghost use Rattle.x691.specs.Bits.{bitOf, uint};
-ghost use Rattle.atn.specs.Messages.{dateTimeGroup};
 ghost use Rattle.records.specs.Space.{space};
 ghost use Rattle.ample_bits.specs.Ahead.{Ahead};
 ghost use Rattle.ample_readings.specs.Ample.{Done, DoneFields};

@@ -1,7 +1,6 @@
 // Named and published places, bearings and designators whose bits are all ahead: read and told at once.
 ghost use mathlib.Core.Path.{_≡_};
-ghost use mathlib.Core.List.{List};
-ghost use Prim.Native.Nat.{ℕ, _+_, _-_, _*_, _^_, _≤_, _<_};
+ghost use Prim.Native.Nat.{_+_, _-_, _*_, _^_, _≤_, _<_};
 ghost use lib.ListN.{length};
 ghost use Rattle.x691.specs.Bits.{bitOf};
 ghost use Rattle.x691.specs.Encoding.{width};

@@ -2,13 +2,13 @@
 use mathlib.Core.Path.{_≡_, refl, sym, ap, _∙_}
 use mathlib.Core.Bool.{true}
 use mathlib.Core.List.{List, [], _∷_, _++_, append-nil}
-use Prim.Native.Nat.{ℕ, zero, suc, _+_, _-_, _*_, _%_, _^_, _≤_, _<_}
+use Prim.Native.Nat.{ℕ, suc, _+_, _-_, _*_, _^_, _≤_, _<_}
 use native.Mathlib.Nat.{add-zero, mod-eq-of-lt}
 use native.Mathlib.Omega.{arith}
 use Rattle.x691.specs.Bits.{bitOf, uint}
 use Rattle.x691.specs.Types.{extent}
 use Rattle.x691.specs.Encoding.{width, widthIn, highest}
-use Rattle.atn.specs.Format.{Fmt, Flds, Alts, num, noted, placed, choice, seq, many, alternativesOf, end, _⨾_, _⨾?_, _∥_}
+use Rattle.atn.specs.Format.{Fmt, Flds, Alts, num, noted, placed, choice, seq, many, alternativesOf, end, _⨾_, _⨾?_}
 use Rattle.atn.specs.Reading.{Rec, rec, Ctx, Ans, ok, then, glue, fork, times, sized, over, unless, or, word, pack, units, flags, read, readFields, readChoice}
 use Rattle.atn.specs.Messages.{ia5}
 use Rattle.atn.proofs.Marks.{or-nil}

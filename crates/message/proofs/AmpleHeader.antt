@@ -1,24 +1,23 @@
 -- A message whose header was read at once: the same reading, grouped otherwise.
 use mathlib.Core.Path.{_≡_, refl, sym, ap, _∙_}
 use mathlib.Core.List.{List, [], _∷_, _++_}
-use Prim.Native.Nat.{ℕ, zero, suc, _+_, _*_, _^_, _≤_, _<_}
+use Prim.Native.Nat.{ℕ, zero, suc, _+_, _*_, _≤_, _<_}
 use native.Mathlib.Omega.{arith}
 use Rattle.x691.specs.Bits.{bitOf, uint}
 use Rattle.x691.proofs.BitLaws.{bitOf-lt}
-use Rattle.atn.specs.Format.{num, noted, null, seq, end, _⨾_, _⨾?_, orNote, Flds}
-use Rattle.atn.specs.Reading.{Rec, rec, Ans, ok, past, stop, glue, then, fork, or, mark, flags, read, readFields}
+use Rattle.atn.specs.Format.{num, end, _⨾_, _⨾?_, orNote, Flds}
+use Rattle.atn.specs.Reading.{rec, Ans, ok, glue, then, fork, or, mark, flags, read, readFields}
 use Rattle.atn.specs.Messages.{dateTimeGroup, messageData, atcMessage}
 use Rattle.atn.proofs.Marks.{or-assoc, or-swap}
 use Rattle.atn.proofs.Steps.{fetch-go, then-nil}
 use Rattle.atn.proofs.Then.{then-then, then-end, then-same}
 use Rattle.cursor.specs.declared.place.Cursor.{Cursor}
-use Rattle.cursor.specs.Place.{Inside, put}
+use Rattle.cursor.specs.Place.{put}
 use Rattle.cursor.proofs.FormatLaws.{allRead, read-unmarked}
 use Rattle.records.proofs.Telling.{told-then}
 use Rattle.runs.specs.declared.At.{At}
-use Rattle.runs.specs.Runs.{Ran, stayed, went, passed, gaveUp, failed, given, Runs}
+use Rattle.runs.specs.Runs.{Ran, stayed, went, passed, gaveUp, failed, Runs}
 use Rattle.ample_readings.specs.declared.Step.{Step}
-use Rattle.ample_readings.specs.Sure.{Sure}
 use Rattle.ample_readings.specs.Ample.{Done}
 use Rattle.ample_readings.proofs.SureLaws.{plain-read}
 use Rattle.ample_headers.specs.Header.{acknowledgment, timed, header}

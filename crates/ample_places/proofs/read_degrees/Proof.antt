@@ -1,6 +1,6 @@
 use borrow.Author.Needs.{needs}
 use native.Mathlib.Omega.{arith}
-use Rattle.records.proofs.Telling.{told-then, told-length, room-next, room-behind}
+use Rattle.records.proofs.Telling.{told-then, room-next, room-behind}
 use Rattle.ample_readings.proofs.AmpleLaws.{ample-done, room-of}
 use Rattle.ample_places.proofs.PlaceLaws.{degrees-sure}
 use Rattle.ample_places.proofs.read_degrees.Statement.{statement}

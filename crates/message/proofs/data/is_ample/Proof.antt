@@ -1,4 +1,3 @@
-use mathlib.Core.Path.{_∙_, sym}
 use mathlib.Core.Bool.{false≢true}
 use borrow.Author.Needs.{needs}
 use borrow.Author.Tests.{leb-true}
