@@ -1,12 +1,13 @@
 """Instructions a frame of a corpus: a run with one pass over it and a run with three are subtracted, so that start and loading drop out.
 
-On x86-64 valgrind counts (its tool callgrind), on another machine the emulator that the program runs under (qemu-user, with the
-plugin count.c).
+The emulator counts where it is installed (qemu-user, with the plugin count.c), on every machine alike; else, on x86-64, valgrind (its tool
+callgrind), which counts an instruction that repeats itself once for each turn, as C libraries have it that clear long stretches so.
 """
 
 import pathlib
 import platform
 import re
+import shutil
 import subprocess
 import sys
 
@@ -36,9 +37,9 @@ class Native:
 
 
 class Emulated:
-    """Another machine: the emulator counts, by its plugin."""
+    """Any machine: the emulator counts, by its plugin."""
     runs = ["qemu-x86_64", "-cpu", "qemu64"]
-    times = False
+    times = platform.machine() == "x86_64"
 
     def __init__(self, work):
         self.plugin, self.count = work / "count.so", work / "count"
@@ -51,7 +52,8 @@ class Emulated:
 
 def machine(work):
     work.mkdir(parents=True, exist_ok=True)
-    return (Native if platform.machine() == "x86_64" else Emulated)(work)
+    emulated = platform.machine() != "x86_64" or shutil.which(Emulated.runs[0])
+    return (Emulated if emulated else Native)(work)
 
 
 def written(work, name):
