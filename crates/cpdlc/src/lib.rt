@@ -1,28 +1,35 @@
 // CPDLC: `parse_pdus` and `parse_apdu`. A frame is read into spare words first, so that a refusal leaves the lent ones and the number of records is known before any is written.
 ghost use mathlib.Core.Path.{_≡_};
-ghost use Prim.Native.Nat.{_≤_};
+ghost use Prim.Native.Nat.{_+_, _*_, _≤_};
 ghost use lib.ListN.{length};
 ghost use Rattle.atn.specs.Entries.{parse-pdus, parse-apdu, pdus, readFrame, settle};
 ghost use Rattle.answers.specs.Says.{Says};
+ghost use Rattle.sends.specs.Sends.{Sends};
 use answers::Answer;
 use answers::LONGEST_FRAME;
 use answers::refused;
 use cpdlc_frames::answer_frame;
 use cpdlc_frames::try_frame;
+use cpdlc_frames::try_send;
 use lent_tables::tables_fit;
-use per::number::uint;
+use per::units::Octets;
+use sends::Send;
+use sends::find_send;
 use spare_words::CPDLC_SPARE;
 use verdicts::Verdict;
 use verdicts::after_bad;
 use verdicts::after_out;
 
-// A frame of so many bytes seldom has more records than these words hold, sixteen.
-const SHORT: usize = 12;
+// Three records.
+const BRIEF_SPARE: usize = 15;
+
+// A string of so many bits seldom has more records than these words hold, sixteen.
+const FEW_BITS: usize = 76;
 
 const FEW_SPARE: usize = 80;
 
-// A frame of so many bytes may have many records, and these words hold 1,638.
-const LONG: usize = 128;
+// A string of so many bits may have many records, and these words hold 1,638.
+const MANY_BITS: usize = 1024;
 
 const MANY_SPARE: usize = 8192;
 
@@ -39,32 +46,66 @@ pub fn parse_pdus(frame: &[u8], direction: u64, down: &[u8], up: &[u8], words: &
     if 1 < direction {
         return refused(3, 0, 0, 0);
     }
-    if has_few(frame, direction) {
-        let mut few = [0u64; FEW_SPARE];
-        let v = try_frame(frame, &mut few, direction, down, up);
-        return answer_frame(frame, words, &few, direction, down, up, v);
+    let send = find_send(frame, direction);
+    if send.at != 0 {
+        return parse_send(frame, direction, send, down, up, words);
     }
-    if direction == 0 {
-        if has_many(frame, 3) {
-            return parse_long(frame, direction, down, up, words);
-        }
-    } else {
-        if has_many(frame, 4) {
-            return parse_long(frame, direction, down, up, words);
-        }
+    if is_brief(frame, direction) {
+        let mut brief = [0u64; BRIEF_SPARE];
+        let v = try_frame(frame, &mut brief, direction, down, up);
+        return answer_frame(frame, words, &brief, direction, down, up, v);
     }
     let mut spare = [0u64; CPDLC_SPARE];
     let v = try_frame(frame, &mut spare, direction, down, up);
     answer_frame(frame, words, &spare, direction, down, up, v)
 }
 
+// A send. Where its string does not end in the frame it is refused before spare words are cleared.
+fn parse_send(
+    frame: &[u8],
+    direction: u64,
+    send: Send,
+    down: &[u8],
+    up: &[u8],
+    words: &mut [u64],
+) -> Answer
+    requires { ⌜ (length (now frame) ≤ 65536) × (1 ≤ length (now down)) × (length (now down) ≤ 256) × (1 ≤ length (now up)) × (length (now up) ≤ 256) × (direction ≤ 1) × Sends direction (now frame) send ⌝ }
+    ensures { λ r. ⌜ Says r (now (words .exit)) (settle (readFrame (pdus direction (now (down .entry)) (now (up .entry))) (now (frame .entry))) (now (words .entry))) ⌝ }
+{
+    let left = Octets(frame.len()).bits().0 - send.at;
+    if left < send.count {
+        return refused(4, send.at, 0, send.count - left);
+    }
+    if send.count <= FEW_BITS {
+        let mut few = [0u64; FEW_SPARE];
+        let v = try_send(frame, &mut few, direction, send, down, up);
+        return answer_frame(frame, words, &few, direction, down, up, v);
+    }
+    if MANY_BITS <= send.count {
+        if direction == 0 {
+            return parse_long(frame, direction, send, down, up, words);
+        }
+        return parse_long(frame, direction, send, down, up, words);
+    }
+    let mut spare = [0u64; CPDLC_SPARE];
+    let v = try_send(frame, &mut spare, direction, send, down, up);
+    answer_frame(frame, words, &spare, direction, down, up, v)
+}
+
 // The same with many spare words. It is called twice so that it stays a function of its own, and other frames do without its stack.
-fn parse_long(frame: &[u8], direction: u64, down: &[u8], up: &[u8], words: &mut [u64]) -> Answer
-    requires { ⌜ (length (now frame) ≤ 65536) × (1 ≤ length (now down)) × (length (now down) ≤ 256) × (1 ≤ length (now up)) × (length (now up) ≤ 256) × (direction ≤ 1) ⌝ }
+fn parse_long(
+    frame: &[u8],
+    direction: u64,
+    send: Send,
+    down: &[u8],
+    up: &[u8],
+    words: &mut [u64],
+) -> Answer
+    requires { ⌜ (length (now frame) ≤ 65536) × (1 ≤ length (now down)) × (length (now down) ≤ 256) × (1 ≤ length (now up)) × (length (now up) ≤ 256) × (direction ≤ 1) × Sends direction (now frame) send × (send .at + send .count ≤ length (now frame) * 8) ⌝ }
     ensures { λ r. ⌜ Says r (now (words .exit)) (settle (readFrame (pdus direction (now (down .entry)) (now (up .entry))) (now (frame .entry))) (now (words .entry))) ⌝ }
 {
     let mut many = [0u64; MANY_SPARE];
-    let v = try_frame(frame, &mut many, direction, down, up);
+    let v = try_send(frame, &mut many, direction, send, down, up);
     answer_frame(frame, words, &many, direction, down, up, v)
 }
 
@@ -93,11 +134,11 @@ pub fn parse_apdu(frame: &[u8], down: &[u8], up: &[u8], words: &mut [u64]) -> An
     answer_frame(frame, words, &spare, 0, down, up, v)
 }
 
-// Whether fewer spare words will do: it is a short frame, or there are three records at most, since its extension bit is set
+// Whether the fewest spare words will do: the frame is too short for a message, or there are three records at most, since its extension bit is set
 // or its choice names neither a start, a send nor a forward message. Nothing but the time rests on it, since a frame whose
 // records do not fit is read again.
-fn has_few(frame: &[u8], direction: u64) -> bool {
-    if frame.len() <= SHORT {
+fn is_brief(frame: &[u8], direction: u64) -> bool {
+    if frame.len() < 4 {
         return true;
     }
     let first = frame[0];
@@ -105,18 +146,4 @@ fn has_few(frame: &[u8], direction: u64) -> bool {
         return first < 0x40 || 0x80 <= first;
     }
     first < 0x20 || 0x50 <= first
-}
-
-// Whether more spare words are worth the time to clear them: the frame is long, and where its choice may name a protected
-// message, from `at` on, that holds a message of 1,024 bits or more. Nothing but the time rests on it.
-fn has_many(frame: &[u8], at: usize) -> bool {
-    if frame.len() <= LONG {
-        return false;
-    }
-    // no extension, no algorithm, a message; then two octets of its length
-    let head = uint(frame, at, 19);
-    if head < 0x1_8400 {
-        return false;
-    }
-    head < 0x1_c000
 }

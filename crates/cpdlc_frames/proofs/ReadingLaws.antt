@@ -93,10 +93,7 @@ module _ (d : ℕ) (down up s : List ℕ) where
 
   ---------------------------------------------------------------- into spare words
 
-  module _ {c : Cursor} {w k : List ℕ} {x : At} (from : c ≡ begin s) (runs : Runs 236124 (pduAt d down up s) s c 0 w k x) where
-    run : Runs 236124 (pduAt d down up s) s (begin s) 0 w k x
-    run = rw from at runs
-
+  module _ {w k : List ℕ} {x : At} (run : Runs 236124 (pduAt d down up s) s (begin s) 0 w k x) where
     keeps : Kept frame k
     keeps = record { kept = λ t. told-kept (rw (ran-tells (run .ran (begin-inside s)) t) at (run .told)) }
 

@@ -1,10 +1,12 @@
 -- What is answered from a verdict.
-use mathlib.Core.Path.{_≡_, refl}
+use mathlib.Core.Path.{_≡_, refl, sym}
 use mathlib.Core.Bool.{Bool, true, false}
 use mathlib.Core.List.{List, _++_}
-use Prim.Native.Nat.{ℕ, _+_, _*_, _/_, _%_, _≤_, _<_}
+use Prim.Native.Nat.{ℕ, _+_, _-_, _*_, _/_, _%_, _≤_, _<_}
 use native.Mathlib.Omega.{arith}
+use mathlib.Core.Logic.{_⊎_, ⊎-elim}
 use lib.ListN.{length, take, drop}
+use lib.Dec.{eqb}
 use Rattle.atn.specs.Reading.{Rec}
 use Rattle.atn.specs.Entries.{Reply, accept, ranOut, badly, unsupplied, readFrame, pdus, settle}
 use Rattle.answers.specs.declared.Answer.{Answer}
@@ -17,9 +19,12 @@ use Rattle.spare_words.proofs.KeptLaws.{settle-kept}
 use Rattle.runs.specs.declared.At.{At}
 use Rattle.runs.specs.Runs.{Runs}
 use Rattle.pdus.specs.Pdus.{pduAt}
+use Rattle.sends.specs.declared.Send.{Send}
+use Rattle.sends.specs.Sends.{Sends}
+use Rattle.sends.proofs.SendLaws.{send-lost}
 use Rattle.verdicts.specs.declared.Verdict.{Verdict}
 use Rattle.verdicts.specs.Verdicts.{verdictOf, Tells, Kept, Follows}
-use Rattle.cpdlc_frames.proofs.ReadingLaws.{begin, begin-inside, ran-tells}
+use Rattle.cpdlc_frames.proofs.ReadingLaws.{begin, begin-inside, ran-tells, tried-refused}
 
 module _ (w : List ℕ) (cut : Bool) (v : Verdict) {need : ℕ} (needs : need ≡ space (v .count)) where
   -- the records do not fit
@@ -53,18 +58,20 @@ module _ {v : Verdict} {w : List ℕ} (u : Reply) (h : v ≡ verdictOf u) where
       go (badly p) q n₀ n₇ = rw q (record { is = settle-bad refl refl })
       go (unsupplied p) q n₀ n₇ = rw q (record { is = settle-lack refl refl })
 
-pub says-whole : (w : List ℕ) {a : Answer} {v : Verdict} {w′ : List ℕ} {r : Reply} → v .why ≡ 0 → ((R : List Rec) → v .count ≡ length R → Tells R r → Says a w′ (settle (accept false (v .reach) (v .marks) R) w)) → (u : Reply) → v ≡ verdictOf u → Follows u r → Says a w′ (settle u w)
+-- accepted, and cut where the verdict says 7
+pub says-accepted : (w : List ℕ) {a : Answer} {v : Verdict} {w′ : List ℕ} {r : Reply} (cut : Bool) → cut ≡ eqb (v .why) 7 → (v .why ≡ 7) ⊎ (v .why ≡ 0) → ((R : List Rec) → v .count ≡ length R → Tells R r → Says a w′ (settle (accept cut (v .reach) (v .marks) R) w)) → (u : Reply) → v ≡ verdictOf u → Follows u r
+    → Says a w′ (settle u w)
 unfolding verdictOf
-says-whole w z f (accept false p m R) h x = rw h at (f R (rw h refl) (x .follows (record { cut = false; reach = p; marks = m; is = refl })))
-says-whole w z f (accept true p m R) h x = absurd (let y : _≡_ {A = ℕ} 7 0 = rw h at z in omega arith)
-says-whole w z f (ranOut p lacked) h x = absurd (let y = rw h at z in omega arith)
-says-whole w z f (badly p) h x = absurd (let y : _≡_ {A = ℕ} 5 0 = rw h at z in omega arith)
-says-whole w z f (unsupplied p) h x = absurd (let y : _≡_ {A = ℕ} 6 0 = rw h at z in omega arith)
+says-accepted w cut e z f (accept false p m R) h x = let y : cut ≡ false = rw h at e in rw (h, y) at (f R (rw h refl) (x .follows (record { cut = false; reach = p; marks = m; is = refl })))
+says-accepted w cut e z f (accept true p m R) h x = let y : cut ≡ true = rw h at e in rw (h, y) at (f R (rw h refl) (x .follows (record { cut = true; reach = p; marks = m; is = refl })))
+says-accepted w cut e z f (ranOut p lacked) h x = absurd (⊎-elim (λ q. let y = rw h at q in omega arith) (λ q. let y = rw h at q in omega arith) z)
+says-accepted w cut e z f (badly p) h x = absurd (⊎-elim (λ q. let y : _≡_ {A = ℕ} 5 7 = rw h at q in omega arith) (λ q. let y : _≡_ {A = ℕ} 5 0 = rw h at q in omega arith) z)
+says-accepted w cut e z f (unsupplied p) h x = absurd (⊎-elim (λ q. let y : _≡_ {A = ℕ} 6 7 = rw h at q in omega arith) (λ q. let y : _≡_ {A = ℕ} 6 0 = rw h at q in omega arith) z)
 
-pub says-cut : (w : List ℕ) {a : Answer} {v : Verdict} {w′ : List ℕ} {r : Reply} → v .why ≡ 7 → ((R : List Rec) → v .count ≡ length R → Tells R r → Says a w′ (settle (accept true (v .reach) (v .marks) R) w)) → (u : Reply) → v ≡ verdictOf u → Follows u r → Says a w′ (settle u w)
-unfolding verdictOf
-says-cut w z f (accept false p m R) h x = absurd (let y : _≡_ {A = ℕ} 0 7 = rw h at z in omega arith)
-says-cut w z f (accept true p m R) h x = rw h at (f R (rw h refl) (x .follows (record { cut = true; reach = p; marks = m; is = refl })))
-says-cut w z f (ranOut p lacked) h x = absurd (let y = rw h at z in omega arith)
-says-cut w z f (badly p) h x = absurd (let y : _≡_ {A = ℕ} 5 7 = rw h at z in omega arith)
-says-cut w z f (unsupplied p) h x = absurd (let y : _≡_ {A = ℕ} 6 7 = rw h at z in omega arith)
+-- a send that ends before its string is refused
+pub says-lost : (d : ℕ) (down up s w : List ℕ) (send : Send) {k : ℕ} → length s ≤ 65536 → d ≤ 1 → Sends d s send → length s * 8 < send .at + send .count → k ≡ send .at + send .count - length s * 8 → Says (Refused 4 (send .at) 0 k) w (settle (readFrame (pdus d down up) s) w)
+says-lost d down up s w send {k} small one x l q =
+    let tried = tried-refused d down up s (send-lost d s send small one x down up l) (λ z. omega arith) (λ z. omega arith) in
+    let number : (4 + 16 * k) % 16 ≡ 4 = omega arith in
+    let lacked : (4 + 16 * k) / 16 ≡ k = omega arith in
+    rw (number, lacked) at (rw (sym q) at (says-refused {w = w} (readFrame (pdus d down up) s) (tried .is) (λ z. omega arith) (λ z. omega arith)))

@@ -1,7 +1,9 @@
 // What stands in inner strings: a message, or the data that a forward message carries. Each is read as a part of the frame, in a window of its own.
+ghost use mathlib.Core.Path.{_≡_};
 ghost use Prim.Native.Nat.{_≤_, _<_, _^_};
 ghost use lib.ListN.{length};
 ghost use Rattle.inner_messages.specs.Parts.{laxData, innerAt};
+ghost use Rattle.inner_strings.specs.Strings.{Has};
 ghost use Rattle.runs.specs.Runs.{Runs};
 use cursor::place::Cursor;
 use inner_strings::Inner;
@@ -39,6 +41,29 @@ pub fn try_data(s: &[u8], words: &mut [u64], n: usize, c: Cursor, table: &[u8]) 
     }
 }
 
+// The message of an inner string that was found, in the bytes from..to of the frame.
+pub fn read_found(
+    s: &[u8],
+    words: &mut [u64],
+    n: usize,
+    from: usize,
+    to: usize,
+    window: Cursor,
+    behind: Cursor,
+    table: &[u8],
+) -> At
+    requires { ⌜ (length (now s) ≤ 65536) × (n < 2 ^ 22) × (1 ≤ length (now table)) × (length (now table) ≤ 256) × (from ≤ to) × (to ≤ length (now s)) ⌝ }
+    ensures { λ r. ⌜ ((c : Cursor) → c .why ≡ 0 → Has (now (s .entry)) c from to window behind → Runs 236059 (innerAt (now (table .entry)) (now (s .entry))) (now (s .entry)) c n (now (words .entry)) (now (words .exit)) r) ⌝ }
+{
+    let x = read_message(&s[from..to], words, n, window, table);
+    let m = x.n;
+    // they were told with places in the string's bytes
+    let by = Octets(from).bits();
+    move_places(words, n, m, by.0);
+    let e = close_window(behind, x.c);
+    At { n: m, c: e }
+}
+
 // A message in its inner string.
 pub fn read_inner(s: &[u8], words: &mut [u64], n: usize, c: Cursor, table: &[u8]) -> At
     requires { ⌜ (length (now s) ≤ 65536) × (n < 2 ^ 22) × (1 ≤ length (now table)) × (length (now table) ≤ 256) ⌝ }
@@ -49,14 +74,6 @@ pub fn read_inner(s: &[u8], words: &mut [u64], n: usize, c: Cursor, table: &[u8]
     }
     match find_string(s, c) {
         Inner::Lost(d) => At { n: n, c: d },
-        Inner::Found(from, to, window, d) => {
-            let x = read_message(&s[from..to], words, n, window, table);
-            let m = x.n;
-            // they were told with places in the string's bytes
-            let by = Octets(from).bits();
-            move_places(words, n, m, by.0);
-            let e = close_window(d, x.c);
-            At { n: m, c: e }
-        }
+        Inner::Found(from, to, window, d) => read_found(s, words, n, from, to, window, d, table),
     }
 }

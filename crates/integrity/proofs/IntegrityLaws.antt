@@ -9,9 +9,10 @@ use Rattle.atn.specs.Format.{anySpan}
 use Rattle.atn.specs.Reading.{Rec, rec, Ans, or, mark, spanned, read}
 use Rattle.cursor.specs.declared.place.Cursor.{Cursor}
 use Rattle.length_determinants.specs.declared.Measured.{Measured}
-use Rattle.cursor.specs.Place.{put, Inside, Led, Takes}
+use Rattle.cursor.specs.declared.place.Got.{Got}
+use Rattle.cursor.specs.Place.{put, Inside, got, Pulls, Led, Takes}
 use Rattle.length_determinants.specs.Lengths.{Measures, Passes}
-use Rattle.length_determinants.proofs.LengthLaws.{takes-any-span}
+use Rattle.length_determinants.proofs.LengthLaws.{measures-short, takes-any-span}
 use Rattle.records.specs.Told.{Told}
 use Rattle.records.proofs.Telling.{told-none, told-within}
 use Rattle.runs.specs.declared.At.{At}
@@ -22,6 +23,13 @@ use Rattle.runs.proofs.RunLaws.{runs-stayed, runs-within}
 
 pub integrity-lost : {s : List ℕ} {c : Cursor} {n : ℕ} {w : List ℕ} → (c .why ≡ 0 → ⊥) → Runs 1 (integrity s) s c n w w (record { n = n; c = c })
 integrity-lost {s} h = runs-within 1 (integrity s) (omega arith) (runs-stayed (integrity s) h)
+
+-- no bits are passed over
+nothing-passed : (c : Cursor) → c .why ≡ 0 → Passes c 0 c
+nothing-passed c z = record { pulls = λ s. record { gave = λ i. got z (omega (arith, i .0)) refl (stays (c .at + 0) (omega arith)) }; moved = λ _. omega arith }
+  where
+    stays : (p : ℕ) → p ≡ c .at → c ≡ put c p 0 (c .marks)
+    stays p q = rw q (ap (λ (w : ℕ). put c (c .at) w (c .marks)) z)
 
 module _ {s : List ℕ} {c d : Cursor} {l : Measured} (measures : Measures s c l) (passes : Passes (l .c) (l .count) d) where
   abbrev reading : ℕ → ℕ → Ans
@@ -52,3 +60,7 @@ module _ {s : List ℕ} {c d : Cursor} {l : Measured} (measures : Measures s c l
       go : (k : ℕ) → (k ≡ 0 → ⊥) → Told 1 w w′ n m (rec 18 0 (l .c .at) k (c .at) ∷ []) → Told 1 w w′ n m (spanned 18 0 (c .at) (l .c .at) k)
       go zero y u = absurd (y refl)
       go (suc k) y u = u
+
+-- eight bits that are 0
+pub integrity-clear : {s : List ℕ} {c : Cursor} {g : Got} {n : ℕ} {w : List ℕ} → Pulls s c 8 g → c .why ≡ 0 → g .c .why ≡ 0 → g .v ≡ 0 → Runs 1 (integrity s) s c n w w (record { n = n; c = g .c })
+integrity-clear {g = g} x h z v = integrity-none (measures-short x z (omega arith)) (rw v (nothing-passed (g .c) z)) h (λ q. omega arith) (λ q. omega arith) v

@@ -14,7 +14,8 @@ use pdu_parts::read_extension;
 use records::emit;
 use runs::At;
 
-fn index_bits(direction: u64) -> usize
+// The bits of the index.
+pub fn index_bits(direction: u64) -> usize
     ensures { λ r. ⌜ r ≡ indexBits direction ⌝ }
 {
     if direction == 0 {

@@ -21,59 +21,50 @@ returns-3 : tie.Need-returns-3
 returns-3 c = record { is = rw (c .refused3 .ensures) (pdus-direction _ _ _ _ _ (c .before .before .before .before .if1 .left) (tables-hold _ _ (c .before .before .before .tables-fit .ensures) (c .before .before .if2 .left)) (c .before .if3 .taken)) }
 
 -- behind the tests
-tested : (c : tie.After-has-few) →
-    let a = c .before .before .before .before .before .before .before .before .before .args in
+tested : (c : tie.Else3) →
+    let a = c .before .before .before .before .before .before .before .before .args in
     (length (a .frame .now) ≤ 65536) × (1 ≤ length (a .down .now)) × (length (a .down .now) ≤ 256) × (1 ≤ length (a .up .now)) × (length (a .up .now) ≤ 256) × (a .direction ≤ 1)
 tested c =
-    let t = tables-are _ _ (c .before .before .before .tables-fit .ensures) (c .before .before .if2 .left) in
-    (c .before .before .before .before .if1 .left, t .0, t .1, t .2, t .3, c .before .if3 .left)
+    let t = tables-are _ _ (c .before .before .tables-fit .ensures) (c .before .if2 .left) in
+    (c .before .before .before .if1 .left, t .0, t .1, t .2, t .3, c .if3 .left)
 
-read : (c : tie.After-has-few) {o : Outcome} →
-    let a = c .before .before .before .before .before .before .before .before .before .args in
+read : (c : tie.Else3) {o : Outcome} →
+    let a = c .before .before .before .before .before .before .before .before .args in
     o ≡ settle (readFrame (pdus (a .direction) (a .down .now) (a .up .now)) (a .frame .now)) (a .words .now) → o ≡ parse-pdus (a .frame .now) (a .direction) (a .down .now) (a .up .now) (a .words .now)
-read c e = pdus-reads _ _ _ _ _ (tested c .0) (tables-hold _ _ (c .before .before .before .tables-fit .ensures) (c .before .before .if2 .left)) (c .before .if3 .left) e
+read c e = pdus-reads _ _ _ _ _ (tested c .0) (tables-hold _ _ (c .before .before .tables-fit .ensures) (c .before .if2 .left)) (c .if3 .left) e
+
+parse-send-requires : tie.Need-parse-send-requires
+parse-send-requires c κs =
+    let t = tested (c .before .before .before .before) in
+    (t .0, t .1, t .2, t .3, t .4, t .5, c .before .before .before .find-send .ensures (c .before .if4 .taken))
+
+returns-4 : tie.Need-returns-4
+returns-4 c = record { is = read (c .before .before .before .before .before .before .before) (c .before .before .parse-send .ensures .is) }
 
 answer-frame-requires : tie.Need-answer-frame-requires
 answer-frame-requires c κs =
-    let v = c .before .before .before in
-    let t = tested (v .before .before .before) in
-    (t .0, t .1, t .2, t .3, t .4, t .5, omega (arith, v .try-frame .ensures .few))
-
-returns-4 : tie.Need-returns-4
-returns-4 c =
-    let v = c .before .before .before .before .before .before in
-    let tried = v .try-frame .ensures in
-    record { is = read (v .before .before .before) (c .before .before .answer-frame .ensures (tried .keeps) _ (tried .is) (follows-same _) .is) }
-
-parse-long-requires : tie.Need-parse-long-requires
-parse-long-requires c κs = tested (c .before .before .before .before .before)
+    let t = tested (c .before .before .before .before .before .before .before .before .before .before) in
+    (t .0, t .1, t .2, t .3, t .4, t .5, omega (arith, c .before .before .before .try-frame .ensures .few))
 
 returns-5 : tie.Need-returns-5
-returns-5 c = record { is = read (c .before .before .before .before .before .before .before .before) (c .before .before .parse-long .ensures .is) }
-
-parse-long-requires-2 : tie.Need-parse-long-requires-2
-parse-long-requires-2 c κs = tested (c .before .before .before .before .before)
-
-returns-6 : tie.Need-returns-6
-returns-6 c = record { is = read (c .before .before .before .before .before .before .before .before) (c .before .before .parse-long2 .ensures .is) }
+returns-5 c =
+    let tried = c .before .before .before .before .before .before .try-frame .ensures in
+    record { is = read (c .before .before .before .before .before .before .before .before .before .before .before .before .before) (c .before .before .answer-frame .ensures (tried .keeps) _ (tried .is) (follows-same _) .is) }
 
 answer-frame-requires-2 : tie.Need-answer-frame-requires-2
 answer-frame-requires-2 c κs =
-    let v = c .before .before .before in
-    let t = tested (v .before .before .before .before) in
-    (t .0, t .1, t .2, t .3, t .4, t .5, omega (arith, v .try-frame2 .ensures .few))
+    let t = tested (c .before .before .before .before .before .before .before .before .before .before) in
+    (t .0, t .1, t .2, t .3, t .4, t .5, omega (arith, c .before .before .before .try-frame2 .ensures .few))
 
-returns-7 : tie.Need-returns-7
-returns-7 c =
-    let v = c .before .before .before .before .before .before in
-    let tried = v .try-frame2 .ensures in
-    record { is = read (v .before .before .before .before) (c .before .before .answer-frame2 .ensures (tried .keeps) _ (tried .is) (follows-same _) .is) }
+returns-6 : tie.Need-returns-6
+returns-6 c =
+    let tried = c .before .before .before .before .before .before .try-frame2 .ensures in
+    record { is = read (c .before .before .before .before .before .before .before .before .before .before .before .before .before) (c .before .before .answer-frame2 .ensures (tried .keeps) _ (tried .is) (follows-same _) .is) }
 
 pub parse-pdus-spec : {M : Type 1} → statement M
 parse-pdus-spec =
     tie.close
     (tie.spec
-    (λ c κs. search needs) returns (λ c κs. search needs) (λ c κs. search needs) returns-2 (λ c κs. search needs) returns-3 (λ c κs. search needs) (λ c. search needs) (λ c κs. tested (c .before .before))
-    (λ c. search needs) answer-frame-requires (λ c. search needs) returns-4
-    (λ c κs. search needs) parse-long-requires (λ c. search needs) returns-5 (λ c κs. search needs) parse-long-requires-2 (λ c. search needs) returns-6
-    (λ c. search needs) (λ c κs. tested (c .before .before .before)) (λ c. search needs) answer-frame-requires-2 (λ c. search needs) returns-7)
+    (λ c κs. search needs) returns (λ c κs. search needs) (λ c κs. search needs) returns-2 (λ c κs. search needs) returns-3 (λ c κs. tested c .5) parse-send-requires (λ c. search needs) returns-4 (λ c κs. search needs) (λ c. search needs) (λ c κs. tested (c .before .before .before .before .before .before))
+    (λ c. search needs) answer-frame-requires (λ c. search needs) returns-5
+    (λ c. search needs) (λ c κs. tested (c .before .before .before .before .before .before)) (λ c. search needs) answer-frame-requires-2 (λ c. search needs) returns-6)
