@@ -9,6 +9,7 @@ use answers::Answer;
 use answers::LONGEST_FRAME;
 use answers::refused;
 use cpdlc_frames::answer_frame;
+use cpdlc_frames::try_any;
 use cpdlc_frames::try_frame;
 use cpdlc_frames::try_send;
 use lent_tables::tables_fit;
@@ -120,14 +121,14 @@ pub fn parse_apdu(frame: &[u8], down: &[u8], up: &[u8], words: &mut [u64]) -> An
         return refused(2, 0, 0, 0);
     }
     let mut spare = [0u64; CPDLC_SPARE];
-    let v = try_frame(frame, &mut spare, 0, down, up);
+    let v = try_any(frame, &mut spare, 0, down, up);
     if v.why % 16 == 4 {
-        let u = try_frame(frame, &mut spare, 1, down, up);
+        let u = try_any(frame, &mut spare, 1, down, up);
         let x = after_out(v.reach, v.why, u);
         return answer_frame(frame, words, &spare, 1, down, up, x);
     }
     if v.why == 5 {
-        let u = try_frame(frame, &mut spare, 1, down, up);
+        let u = try_any(frame, &mut spare, 1, down, up);
         let x = after_bad(v.reach, u);
         return answer_frame(frame, words, &spare, 1, down, up, x);
     }

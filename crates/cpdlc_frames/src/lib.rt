@@ -13,10 +13,12 @@ ghost use Rattle.verdicts.specs.Verdicts.{verdictOf, Tried, Tells, Kept, Follow
 use answers::Answer;
 use cursor::place::Cursor;
 use pdus::choices::read_pdu;
+use per::room::holds;
 use per::units::Octets;
 use records::space::words_for;
 use runs::At;
 use sends::Send;
+use sends::find_send;
 use sends::read_send;
 use spare_words::copy;
 use verdicts::Verdict;
@@ -97,6 +99,20 @@ pub fn try_send(
     }
     let x = read_send(frame, spare, direction, index, at, count, up);
     verdict(x)
+}
+
+// The same of any frame: a send that holds its string is read as such.
+pub fn try_any(frame: &[u8], spare: &mut [u64], direction: u64, down: &[u8], up: &[u8]) -> Verdict
+    requires { ⌜ (length (now frame) ≤ 65536) × (1 ≤ length (now down)) × (length (now down) ≤ 256) × (1 ≤ length (now up)) × (length (now up) ≤ 256) × (direction ≤ 1) ⌝ }
+    ensures { λ r. ⌜ Tried (readFrame (pdus direction (now (down .entry)) (now (up .entry))) (now (frame .entry))) r (now (spare .exit)) ⌝ }
+{
+    let send = find_send(frame, direction);
+    if send.at != 0 {
+        if holds(frame, send.at + send.count) {
+            return try_send(frame, spare, direction, send, down, up);
+        }
+    }
+    try_frame(frame, spare, direction, down, up)
 }
 
 // The records of an accepted reading, where they fit.

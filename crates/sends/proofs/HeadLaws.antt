@@ -112,6 +112,10 @@ length-near : {b : ℕ → ℕ} {p n q : ℕ} → Shortest b p n q → q ≤ p +
 length-near (one-octet l w h) = omega arith
 length-near (two-octets a l w h) = omega arith
 
+pub length-few : {b : ℕ → ℕ} {p n q : ℕ} → Shortest b p n q → n < 16384
+length-few (one-octet l w h) = omega arith
+length-few (two-octets a l w h) = l
+
 pub found : (d : ℕ) {s : List ℕ} {w bits : ℕ} {r : Send} → w ≡ indexBits d → 4 ≤ length s → (0 + (w + 20) ≤ length s * 8 → bits ≡ uint (bitOf s) 0 (w + 20)) → bits / 65536 % 8 ≡ 1 → Protected d (bits / 65536 / 8)
     → ((s : List ℕ) → uint (bitOf s) (w + 4) 16 ≡ bits % 65536 → (r .at ≡ 0 → ⊥) → (r .index ≡ bits / 65536 / 8) × Shortest (bitOf s) (w + 4) (r .count) (r .at)) → (r .at ≡ 0 → ⊥) → Sends d s r
 found d {s} {w} {bits} {r} q four worth form named behind some =
