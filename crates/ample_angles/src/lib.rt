@@ -14,15 +14,19 @@ use ample_bits::ahead;
 use ample_bits::behind;
 use ample_bits::first;
 use ample_readings::Step;
-use ample_readings::above;
 use ample_readings::given_up;
+use ample_readings::read_number;
+use ample_readings::read_ranged;
 use cpdlc_tags::COORDINATES;
 use cpdlc_tags::LATITUDE;
 use cpdlc_tags::LONGITUDE;
+use field_ranges::table::HUNDREDTHS;
 use field_ranges::table::LATITUDE_DEGREES;
 use field_ranges::table::LATITUDE_THOUSANDTHS;
 use field_ranges::table::LONGITUDE_DEGREES;
 use field_ranges::table::LONGITUDE_THOUSANDTHS;
+use field_ranges::table::MINUTES;
+use field_ranges::table::SIDE;
 use records::store;
 
 // The numbers of an angle and its side, by its form. The tags of an angle follow one another from `tag` on: form, thousandths, degrees, hundredths, minutes, seconds, side.
@@ -38,16 +42,13 @@ fn thousandths(
     requires { ⌜ (n < 2 ^ 31) × (space (n + 2) ≤ length (now words)) × (at < 2 ^ 61) × (tag < 256) × (most < 2 ^ 18) × (width most ≡ wide) × (1 ≤ wide) × (wide ≤ 18) ⌝ }
     ensures { λ r. ⌜ ((s : List ℕ) → Ahead s at 22 v → Ample 2 19 (seq (num (tag + 1) 0 most ⨾ num (tag + 6) 0 1 ⨾ end)) s at n (now (words .entry)) (now (words .exit)) r) ⌝ }
 {
-    let x = first(v, wide);
-    let side = first(behind(v, wide), 1);
-    let p = at + wide;
-    let m = store(words, n, tag + 1, 0, x, 0, at);
-    let k = store(words, m, tag + 6, 0, side, 0, p);
-    let marks = above(x, most);
+    let a = behind(v, wide);
+    let x = read_number(words, n, v, at, tag + 1, 0, most, wide);
+    let side = read_ranged(words, x.n, a, x.at, tag + 6, SIDE);
     Step {
-        at: p + 1,
-        n: k,
-        marks: marks,
+        at: side.at,
+        n: side.n,
+        marks: x.marks | side.marks,
     }
 }
 
@@ -63,19 +64,15 @@ fn hundredths(
     requires { ⌜ (n < 2 ^ 31) × (space (n + 3) ≤ length (now words)) × (at < 2 ^ 61) × (tag < 256) × (most < 256) × (width most ≡ narrow) × (1 ≤ narrow) × (narrow ≤ 8) ⌝ }
     ensures { λ r. ⌜ ((s : List ℕ) → Ahead s at 22 v → Ample 3 22 (seq (seq (num (tag + 2) 0 most ⨾ num (tag + 3) 0 5999 ⨾ end) ⨾ num (tag + 6) 0 1 ⨾ end)) s at n (now (words .entry)) (now (words .exit)) r) ⌝ }
 {
-    let x = first(v, narrow);
     let a = behind(v, narrow);
-    let y = first(a, 13);
-    let side = first(behind(a, 13), 1);
-    let p = at + narrow;
-    let m = store(words, n, tag + 2, 0, x, 0, at);
-    let k = store(words, m, tag + 3, 0, y, 0, p);
-    let l = store(words, k, tag + 6, 0, side, 0, p + 13);
-    let marks = above(x, most) | above(y, 5999);
+    let b = behind(a, HUNDREDTHS.width());
+    let x = read_number(words, n, v, at, tag + 2, 0, most, narrow);
+    let y = read_ranged(words, x.n, a, x.at, tag + 3, HUNDREDTHS);
+    let side = read_ranged(words, y.n, b, y.at, tag + 6, SIDE);
     Step {
-        at: p + 14,
-        n: l,
-        marks: marks,
+        at: side.at,
+        n: side.n,
+        marks: x.marks | y.marks | side.marks,
     }
 }
 
@@ -91,22 +88,17 @@ fn seconds(
     requires { ⌜ (n < 2 ^ 31) × (space (n + 4) ≤ length (now words)) × (at < 2 ^ 61) × (tag < 256) × (most < 256) × (width most ≡ narrow) × (1 ≤ narrow) × (narrow ≤ 8) ⌝ }
     ensures { λ r. ⌜ ((s : List ℕ) → Ahead s at 22 v → Ample 4 21 (seq (seq (num (tag + 2) 0 most ⨾ num (tag + 4) 0 59 ⨾ num (tag + 5) 0 59 ⨾ end) ⨾ num (tag + 6) 0 1 ⨾ end)) s at n (now (words .entry)) (now (words .exit)) r) ⌝ }
 {
-    let x = first(v, narrow);
     let a = behind(v, narrow);
-    let y = first(a, 6);
-    let b = behind(a, 6);
-    let z = first(b, 6);
-    let side = first(behind(b, 6), 1);
-    let p = at + narrow;
-    let m = store(words, n, tag + 2, 0, x, 0, at);
-    let k = store(words, m, tag + 4, 0, y, 0, p);
-    let l = store(words, k, tag + 5, 0, z, 0, p + 6);
-    let o = store(words, l, tag + 6, 0, side, 0, p + 12);
-    let marks = above(x, most) | (above(y, 59) | above(z, 59));
+    let b = behind(a, MINUTES.width());
+    let d = behind(b, MINUTES.width());
+    let x = read_number(words, n, v, at, tag + 2, 0, most, narrow);
+    let y = read_ranged(words, x.n, a, x.at, tag + 4, MINUTES);
+    let z = read_ranged(words, y.n, b, y.at, tag + 5, MINUTES);
+    let side = read_ranged(words, z.n, d, z.at, tag + 6, SIDE);
     Step {
-        at: p + 13,
-        n: o,
-        marks: marks,
+        at: side.at,
+        n: side.n,
+        marks: x.marks | (y.marks | z.marks) | side.marks,
     }
 }
 

@@ -34,6 +34,10 @@ module _ {s : List ℕ} {p j v : ℕ} (a : Ahead s p j v) where
             ∙ low (uint b p k) m (uint-below s (p + k) m);
       }
 
+-- the same at a place and in a word that are called otherwise
+pub ahead-next : {s : List ℕ} {p j v q b : ℕ} (k : ℕ) → Ahead s p j v → q ≡ p + k → b ≡ v * 2 ^ k % 2 ^ 64 → k ≤ j → Ahead s q (j - k) b
+ahead-next k a e f h = rw (e, f) (behind-ahead a k h)
+
 pub ahead-fewer : {s : List ℕ} {p j v : ℕ} (k : ℕ) → Ahead s p j v → k ≤ j → Ahead s p k v
 ahead-fewer k a h = record { most = omega (arith, a .most); spelt = first-spelt a k h }
 

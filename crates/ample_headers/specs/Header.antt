@@ -1,15 +1,18 @@
 -- The header of a message behind its presence bits, by these bits: what is there of it as one sequence.
-use Prim.Native.Nat.{ℕ, zero, suc}
+use Prim.Native.Nat.{ℕ, zero, suc, _+_}
 use Rattle.atn.specs.Format.{Fmt, Flds, num, noted, null, seq, end, _⨾_}
 use Rattle.atn.specs.Messages.{dateTimeGroup}
 use Rattle.atn.specs.Tags as tag
+use Rattle.field_ranges.specs.declared.table.Range.{Range}
+use Rattle.field_ranges.specs.Ranges.{widthOf}
 
--- the two halves of a date and time
-abbrev pub date : Fmt
-date = seq (num tag.year 1996 2095 ⨾ num tag.month 1 12 ⨾ num tag.day 1 31 ⨾ end)
+-- three numbers whose tags follow one another
+abbrev pub three : ℕ → Range → Range → Range → Fmt
+three t a b d = seq (num t (a .lo) (a .hi) ⨾ num (t + 1) (b .lo) (b .hi) ⨾ num (t + 2) (d .lo) (d .hi) ⨾ end)
 
-abbrev pub time : Fmt
-time = seq (num tag.hours 0 23 ⨾ num tag.minutes 0 59 ⨾ num tag.seconds 0 59 ⨾ end)
+-- the bits of them
+abbrev pub bits : Range → Range → Range → ℕ
+bits a b d = widthOf a + (widthOf b + widthOf d)
 
 -- a default acknowledgment is 1
 abbrev pub acknowledgment : ℕ → Fmt

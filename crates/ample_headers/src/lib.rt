@@ -1,66 +1,52 @@
 // The header of a message whose bits are all ahead, at the top of a word: read and told at once.
-ghost use mathlib.Core.Path.{_≡_};
 ghost use mathlib.Core.List.{List};
 ghost use Prim.Native.Nat.{ℕ, _+_, _/_, _^_, _≤_, _<_};
 ghost use lib.ListN.{length};
 ghost use Rattle.x691.specs.Bits.{bitOf, uint};
+ghost use Rattle.field_ranges.specs.Ranges.{widthOf};
 ghost use Rattle.records.specs.Space.{space};
 ghost use Rattle.ample_bits.specs.Ahead.{Ahead};
-ghost use Rattle.ample_readings.specs.Ample.{Done, DoneFields};
-ghost use Rattle.ample_headers.specs.Header.{date, time, timed, header};
+ghost use Rattle.ample_readings.specs.Ample.{Done, DoneFields, Fixed};
+ghost use Rattle.ample_headers.specs.Header.{three, bits, timed, header};
 use ample_bits::ahead;
 use ample_bits::behind;
 use ample_bits::first;
 use ample_readings::Step;
-use ample_readings::above;
-use cpdlc_tags::DAY;
-use cpdlc_tags::HOURS;
+use ample_readings::read_ranged;
 use cpdlc_tags::LOGICAL_ACK;
-use cpdlc_tags::MINUTES;
-use cpdlc_tags::MONTH;
-use cpdlc_tags::MSG_ID;
-use cpdlc_tags::MSG_REF;
-use cpdlc_tags::SECONDS;
-use cpdlc_tags::YEAR;
+use field_ranges::table::DAY;
+use field_ranges::table::HOURS;
+use field_ranges::table::MINUTES;
+use field_ranges::table::MONTH;
+use field_ranges::table::MSG_ID;
+use field_ranges::table::Range;
+use field_ranges::table::SIDE;
+use field_ranges::table::YEAR;
 use records::store;
 
-// Year, month and day.
-fn read_date(words: &mut [u64], n: usize, v: u64, at: usize) -> Step
-    requires { ⌜ (n < 2 ^ 31) × (space (n + 3) ≤ length (now words)) × (at < 2 ^ 61) ⌝ }
-    ensures { λ r. ⌜ ((s : List ℕ) → Ahead s at 16 v → Done 3 16 date s at n (now (words .entry)) (now (words .exit)) r) × (r .at ≡ at + 16) × (r .n ≡ n + 3) ⌝ }
+// Three numbers from the greatest unit to the least, whose tags follow one another: year, month and day, or hours, minutes and seconds.
+fn read_three(
+    words: &mut [u64],
+    n: usize,
+    v: u64,
+    at: usize,
+    tag: u64,
+    great: Range,
+    middle: Range,
+    small: Range,
+) -> Step
+    requires { ⌜ (n < 2 ^ 31) × (space (n + 3) ≤ length (now words)) × (at < 2 ^ 61) × (tag < 256) × (1 ≤ widthOf great) × (1 ≤ widthOf middle) × (1 ≤ widthOf small) × (bits great middle small ≤ 57) ⌝ }
+    ensures { λ r. ⌜ Fixed 3 (bits great middle small) (three tag great middle small) v at n (now (words .entry)) (now (words .exit)) r ⌝ }
 {
-    let year = first(v, 7);
-    let a = behind(v, 7);
-    let month = first(a, 4);
-    let day = first(behind(a, 4), 5);
-    let m = store(words, n, YEAR, 0, year + 1996, 0, at);
-    let k = store(words, m, MONTH, 0, month + 1, 0, at + 7);
-    let l = store(words, k, DAY, 0, day + 1, 0, at + 11);
-    let marks = above(year, 99) | (above(month, 11) | above(day, 30));
+    let a = behind(v, great.width());
+    let b = behind(a, middle.width());
+    let x = read_ranged(words, n, v, at, tag, great);
+    let y = read_ranged(words, x.n, a, x.at, tag + 1, middle);
+    let z = read_ranged(words, y.n, b, y.at, tag + 2, small);
     Step {
-        at: at + 16,
-        n: l,
-        marks: marks,
-    }
-}
-
-// Hours, minutes and seconds.
-fn read_time(words: &mut [u64], n: usize, v: u64, at: usize) -> Step
-    requires { ⌜ (n < 2 ^ 31) × (space (n + 3) ≤ length (now words)) × (at < 2 ^ 61) ⌝ }
-    ensures { λ r. ⌜ ((s : List ℕ) → Ahead s at 17 v → Done 3 17 time s at n (now (words .entry)) (now (words .exit)) r) × (r .at ≡ at + 17) × (r .n ≡ n + 3) ⌝ }
-{
-    let hours = first(v, 5);
-    let a = behind(v, 5);
-    let minutes = first(a, 6);
-    let seconds = first(behind(a, 6), 6);
-    let m = store(words, n, HOURS, 0, hours, 0, at);
-    let k = store(words, m, MINUTES, 0, minutes, 0, at + 5);
-    let l = store(words, k, SECONDS, 0, seconds, 0, at + 11);
-    let marks = above(hours, 23) | (above(minutes, 59) | above(seconds, 59));
-    Step {
-        at: at + 17,
-        n: l,
-        marks: marks,
+        at: z.at,
+        n: z.n,
+        marks: x.marks | (y.marks | z.marks),
     }
 }
 
@@ -69,23 +55,33 @@ fn read_timed(words: &mut [u64], n: usize, v: u64, at: usize, has: u64) -> Step
     requires { ⌜ (n < 2 ^ 30) × (space (n + 7) ≤ length (now words)) × (at < 2 ^ 60) ⌝ }
     ensures { λ r. ⌜ ((s : List ℕ) → Ahead s at 34 v → DoneFields 7 34 (timed has) s at n (now (words .entry)) (now (words .exit)) r) ⌝ }
 {
-    let x = read_date(words, n, v, at);
-    let y = read_time(words, x.n, behind(v, 16), at + 16);
-    let p = at + 33;
+    let x = read_three(words, n, v, at, cpdlc_tags::YEAR, YEAR, MONTH, DAY);
+    let a = behind(v, x.at - at);
+    let y = read_three(
+        words,
+        x.n,
+        a,
+        x.at,
+        cpdlc_tags::HOURS,
+        HOURS,
+        MINUTES,
+        MINUTES,
+    );
+    let marks = x.marks | y.marks;
     if has == 0 {
-        let m = store(words, y.n, LOGICAL_ACK, 0, 1, 0, p);
+        let m = store(words, y.n, LOGICAL_ACK, 0, 1, 0, y.at);
         return Step {
-            at: p,
+            at: y.at,
             n: m,
-            marks: x.marks | y.marks,
+            marks: marks,
         };
     }
-    let acknowledgment = first(behind(v, 33), 1);
-    let m = store(words, y.n, LOGICAL_ACK, 0, acknowledgment, 0, p);
+    let b = behind(a, y.at - x.at);
+    let z = read_ranged(words, y.n, b, y.at, LOGICAL_ACK, SIDE);
     Step {
-        at: p + 1,
-        n: m,
-        marks: x.marks | y.marks,
+        at: z.at,
+        n: z.n,
+        marks: marks | z.marks,
     }
 }
 
@@ -97,13 +93,22 @@ pub fn read_header(s: &[u8], words: &mut [u64], n: usize, at: usize) -> Step
     let v = ahead(s, at);
     let has = first(v, 2);
     let a = behind(v, 2);
-    let id = first(a, 6);
-    let m = store(words, n, MSG_ID, 0, id, 0, at + 2);
+    let x = read_ranged(words, n, a, at + 2, cpdlc_tags::MSG_ID, MSG_ID);
+    let wide = MSG_ID.width();
+    let b = behind(a, wide);
     if has < 2 {
-        return read_timed(words, m, behind(a, 6), at + 8, has);
+        let y = read_timed(words, x.n, b, x.at, has);
+        return Step {
+            at: y.at,
+            n: y.n,
+            marks: x.marks | y.marks,
+        };
     }
-    let b = behind(a, 6);
-    let reference = first(b, 6);
-    let k = store(words, m, MSG_REF, 0, reference, 0, at + 8);
-    read_timed(words, k, behind(b, 6), at + 14, has - 2)
+    let y = read_ranged(words, x.n, b, x.at, cpdlc_tags::MSG_REF, MSG_ID);
+    let z = read_timed(words, y.n, behind(b, wide), y.at, has - 2);
+    Step {
+        at: z.at,
+        n: z.n,
+        marks: x.marks | (y.marks | z.marks),
+    }
 }

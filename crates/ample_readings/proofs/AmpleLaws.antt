@@ -1,38 +1,24 @@
--- What is read and told with ample room: numbers at the top of a word, and how what was told goes together.
+-- What is read and told with ample room: how what was told goes together.
 use mathlib.Core.Path.{_≡_, sym, _∙_}
-use mathlib.Core.List.{List, [], _∷_, _++_, append-nil}
-use Prim.Native.Nat.{ℕ, _+_, _-_, _/_, _^_, _≤_, _<_}
-use native.Mathlib.Nat.{zero-add}
+use mathlib.Core.Bool.{true}
+use mathlib.Core.List.{List, [], _++_, append-nil}
+use Prim.Native.Nat.{ℕ, suc, _+_, _-_, _*_, _%_, _^_, _≤_, _<_}
 use native.Mathlib.Omega.{arith}
 use lib.ListN.{length, take}
-use Rattle.x691.specs.Bits.{bitOf, uint}
-use Rattle.x691.specs.Types.{extent}
-use Rattle.x691.specs.Encoding.{width}
-use Rattle.per.proofs.Laws.{uint-below-wide}
-use Rattle.atn.specs.Format.{Fmt, Flds, num}
-use Rattle.atn.specs.Reading.{Rec, rec, Ctx, over}
+use Rattle.atn.specs.Format.{Fmt, Flds, seq, end, _⨾_}
+use Rattle.atn.specs.Reading.{Rec, or, flags}
 use Rattle.atn.specs.Entries.{flat}
 use Rattle.records.specs.Space.{space}
 use Rattle.records.specs.Told.{Told}
 use Rattle.records.proofs.Sizes.{space-grows}
-use Rattle.records.proofs.Telling.{Room, told-then, told-within}
+use Rattle.records.proofs.Telling.{Room, room-next, told-then, told-within}
+use Rattle.cursor.proofs.FormatLaws.{allRead}
 use Rattle.ample_bits.specs.Ahead.{Ahead}
-use Rattle.ample_bits.proofs.AheadLaws.{first-spelt}
+use Rattle.ample_bits.proofs.AheadLaws.{ahead-next}
 use Rattle.ample_readings.specs.declared.Step.{Step}
 use Rattle.ample_readings.specs.Sure.{Sure, SureFields}
-use Rattle.ample_readings.specs.Ample.{Done, DoneFields, Ample}
-use Rattle.ample_readings.proofs.SureLaws.{sure-num}
-
-extent-zero : (hi : ℕ) → hi < 2 ^ 64 → extent 0 hi ≡ hi
-unfolding extent
-extent-zero hi h = omega arith
-
--- a number from 0 on, at the top of the word v
-pub ahead-num : {x : Ctx} {s : List ℕ} {p j v y : ℕ} (t hi w : ℕ) → hi < 2 ^ 64 → width hi ≡ w → Ahead s p j v → w ≤ j → y ≡ v / 2 ^ (64 - w) → Sure (num t 0 hi) x s p (p + w) (rec t (x .0) y 0 p ∷ []) (over hi y)
-ahead-num {x} {s} {p} {j} {v} {y} t hi w h q a l e =
-    let u : y ≡ uint (bitOf s) p w = e ∙ first-spelt a w l in
-    let f : y < 2 ^ 64 = rw u (uint-below-wide 64 s p w (omega (arith, a .most))) in
-    rw (zero-add y) at (sure-num {x = x} t 0 hi hi w (extent-zero hi h) q u (omega arith))
+use Rattle.ample_readings.specs.Ample.{Done, DoneFields, Ample, Fixed}
+use Rattle.ample_readings.proofs.SureLaws.{sure-plain, sure-must, sure-last}
 
 module _ {b j : ℕ} {f : Fmt} {s : List ℕ} {at n : ℕ} {w w′ : List ℕ} {r : Step} where
   pub ample-done : Done b j f s at n w w′ r → Ample b j f s at n w w′ r
@@ -40,6 +26,10 @@ module _ {b j : ℕ} {f : Fmt} {s : List ℕ} {at n : ℕ} {w w′ : List ℕ} {
 
   pub done-of : {R : List Rec} → ((i : ℕ) → Sure f (0, i) s at (r .at) R (r .marks)) → r .at ≤ at + j → Told b w w′ n (r .n) R → Done b j f s at n w w′ r
   done-of y l t = record { recs = _; sure = y; near = l; told = t }
+
+  -- at most so many records and bits more
+  pub done-within : {c k : ℕ} → Done b j f s at n w w′ r → b ≤ c → j ≤ k → Done c k f s at n w w′ r
+  done-within {c = c} d h l = record { recs = d .recs; sure = d .sure; near = omega (arith, d .near); told = told-within c h (d .told) }
 
   -- given up, nothing was told
   pub ample-untold : Ample b j f s at n w w′ r → Told 0 w w′ n n []
@@ -90,3 +80,37 @@ ample-after {c = c} d x l o h =
 
 pub done-fields : {b j : ℕ} {fs : Flds} {s : List ℕ} {at n : ℕ} {w w′ : List ℕ} {r : Step} {R : List Rec} → ((i q : ℕ) → SureFields fs (0, i) s q at (r .at) R (r .marks)) → r .at ≤ at + j → Told b w w′ n (r .n) R → DoneFields b j fs s at n w w′ r
 done-fields y l t = record { recs = _; sure = y; near = l; told = t }
+
+-- the fields of a sequence without presence bits, one after another
+module _ {b j : ℕ} {f : Fmt} {s : List ℕ} {at n : ℕ} {w w₁ : List ℕ} {r : Step} (d : Done b j f s at n w w₁ r) where
+  pub done-last : DoneFields b j (f ⨾ end) s at n w w₁ r
+  done-last = done-fields (λ i q. sure-last {q = q} (d .sure i)) (d .near) (d .told)
+
+  pub done-must : {c k : ℕ} {fs : Flds} {w₂ : List ℕ} {r₁ : Step} → DoneFields c k fs s (r .at) (r .n) w₁ w₂ r₁ → DoneFields (b + c) (j + k) (f ⨾ fs) s at n w w₂ (record { at = r₁ .at; n = r₁ .n; marks = or (r .marks) (r₁ .marks) })
+  done-must e = done-fields (λ i q. sure-must {q = q} (d .sure i) (e .sure i q)) (omega (arith, d .near, e .near)) (told-then (d .told) (e .told))
+
+pub done-plain : {b j : ℕ} {fs : Flds} {s : List ℕ} {at n : ℕ} {w w′ : List ℕ} {r : Step} → flags fs ≡ 0 → allRead fs ≡ true → DoneFields b j fs s at n w w′ r → Done b j (seq fs) s at n w w′ r
+done-plain {at = at} p a d = done-of (λ i. sure-plain p a (d .sure i at)) (d .near) (d .told)
+
+-- what is asked for a number, where there is room for one record or more
+pub number-room : {j m : ℕ} {w : List ℕ} (at k : ℕ) → Room (suc j) m w → at < 2 ^ 62 → 1 ≤ k → (m < 2 ^ 32) × (space (m + 1) ≤ length w) × (at < 2 ^ 62) × (1 ≤ k)
+number-room {m = m} at k r h l = let o = room-next m r in (o .0, o .1, h, l)
+
+-- formats of a known number of bits, one behind another
+module _ {b k v at n : ℕ} {f : Fmt} {w w₁ : List ℕ} {r : Step} where
+  pub fixed-by : {i : ℕ} → i ≡ k → Fixed b i f v at n w w₁ r → Fixed b k f v at n w w₁ r
+  fixed-by e x = rw e at x
+
+  module _ (x : Fixed b k f v at n w w₁ r) where
+    -- room for what follows
+    pub fixed-room : {i : ℕ} (j : ℕ) → length w₁ ≡ length w → Room i n w → b + j ≤ i → Room j (r .n) w₁
+    fixed-room {i} j l o h = let e : r .n + j ≤ n + i = omega (arith, x .count) in record { few = omega (arith, o .few); enough = omega (arith, o .enough, space-grows e) }
+
+    module _ {s : List ℕ} {j : ℕ} (a : Ahead s at j v) (l : k ≤ j) where
+      pub fixed-last : DoneFields b k (f ⨾ end) s at n w w₁ r
+      fixed-last = done-last (x .done s j a l)
+
+      -- the next has the bits behind it ahead
+      pub fixed-then : {c d i m : ℕ} {fs : Flds} {w₂ : List ℕ} {r₁ : Step} → i ≡ k → d ≡ v * 2 ^ i % 2 ^ 64 → (Ahead s (r .at) (j - k) d → DoneFields c m fs s (r .at) (r .n) w₁ w₂ r₁)
+          → DoneFields (b + c) (k + m) (f ⨾ fs) s at n w w₂ (record { at = r₁ .at; n = r₁ .n; marks = or (r .marks) (r₁ .marks) })
+      fixed-then e g next = done-must (x .done s j a l) (next (ahead-next k a (x .to) (rw e at g) l))

@@ -26,10 +26,14 @@ plain-read x s fs p a e at h =
 
 module _ {x : Ctx} {s : List ℕ} where
   -- v is above the lowest by what w bits say, which is above d or not
+  pub sure-word : (t lo hi d w : ℕ) {at v : ℕ} → extent lo hi ≡ d → width d ≡ w → v ≡ uint (bitOf s) at w → Sure (num t lo hi) x s at (at + w) (rec t (x .0) (word (lo + v)) 0 at ∷ []) (over d v)
+  unfolding read
+  sure-word t lo hi d w {at} {v} p q u = record { forth = omega arith; gives = λ e h. rw (p, q) (pull-go (bitOf s) e at w _ h ∙ rw (← u)) }
+
+  -- the same where the sum is not above a word
   pub sure-num : (t lo hi d w : ℕ) {at v : ℕ} → extent lo hi ≡ d → width d ≡ w → v ≡ uint (bitOf s) at w → lo + v < 2 ^ 64 → Sure (num t lo hi) x s at (at + w) (rec t (x .0) (lo + v) 0 at ∷ []) (over d v)
-  unfolding read word
-  sure-num t lo hi d w {at} {v} p q u l =
-      record { forth = omega arith; gives = λ e h. rw (p, q) (pull-go (bitOf s) e at w _ h ∙ rw (← u, mod-eq-of-lt l)) }
+  unfolding word
+  sure-num t lo hi d w p q u l = rw (mod-eq-of-lt l) at (sure-word t lo hi d w p q u)
 
   -- the index, then the alternative that it names
   pub sure-choice : (t : ℕ) (fs : Alts) (f : Fmt) (w i : ℕ) {at q m : ℕ} {R : List Rec} → width (highest (alternativesOf fs)) ≡ w → i ≡ uint (bitOf s) at w

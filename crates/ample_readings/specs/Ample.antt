@@ -7,6 +7,7 @@ use Rattle.atn.specs.Format.{Fmt, Flds}
 use Rattle.atn.specs.Reading.{Rec}
 use Rattle.records.specs.Space.{space}
 use Rattle.records.specs.Told.{Told}
+use Rattle.ample_bits.specs.Ahead.{Ahead}
 use Rattle.ample_readings.specs.declared.Step.{Step}
 use Rattle.ample_readings.specs.Sure.{Sure, SureFields}
 
@@ -29,3 +30,9 @@ pub record Ample (b j : ℕ) (f : Fmt) (s : List ℕ) (at n : ℕ) (w w′ : Lis
   pub room : length w′ ≡ length w
   pub before : take (space n) w′ ≡ take (space n) w
   pub done : (r .at ≡ 0 → ⊥) → Done b j f s at n w w′ r
+
+-- a format that takes k bits and tells b records, whatever the bits are: at the top of the word v it was read and told, of each frame that has them at `at`
+pub record Fixed (b k : ℕ) (f : Fmt) (v at n : ℕ) (w w′ : List ℕ) (r : Step) : Type 0 where
+  pub done : (s : List ℕ) (j : ℕ) → Ahead s at j v → k ≤ j → Done b k f s at n w w′ r
+  pub to : r .at ≡ at + k
+  pub count : r .n ≡ n + b
