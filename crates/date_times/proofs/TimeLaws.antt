@@ -1,7 +1,8 @@
 -- A date and time from its six numbers: one read after another, or all out of two pulls.
 use mathlib.Core.Path.{_≡_, refl, _∙_}
 use mathlib.Core.List.{List, [], _∷_}
-use Prim.Native.Nat.{ℕ, _+_, _/_, _%_, _^_, _<_}
+use Prim.Native.Nat.{ℕ, _+_, _*_, _/_, _%_, _^_, _≤_, _<_}
+use native.Mathlib.Nat.{one-le-pow, pow-le-pow-right}
 use native.Mathlib.Omega.{arith}
 use Rattle.x691.specs.Types.{extent}
 use Rattle.x691.specs.Encoding.{width, widthIn}
@@ -11,6 +12,7 @@ use Rattle.cursor.specs.declared.place.Got.{Got}
 use Rattle.cursor.specs.Place.{put, Inside, Pulls}
 use Rattle.records.specs.Told.{Told}
 use Rattle.records.proofs.Telling.{told-then, place-behind}
+use Rattle.field_ranges.specs.declared.table.Range.{Range}
 use Rattle.field_ranges.specs.Rows as rows
 use Rattle.field_ranges.specs.Ranges.{rowAt}
 use Rattle.field_ranges.specs.Ends.{lowest, highest}
@@ -63,35 +65,53 @@ module _ {s : List ℕ} {c : Cursor} (year month day hours minutes seconds : Got
             (fields-last (takes-plain refl refl (fields-must (e .number 14) (fields-must (f .number 15) (fields-last (g .number 16))))))));
       }
 
+-- a power of two as the machine makes it
+power-shifted : (w : ℕ) → w < 64 → 1 * 2 ^ w % 2 ^ 64 ≡ 2 ^ w
+power-shifted w h = let g : w ≤ 63 = omega arith in let l : 2 ^ w ≤ 2 ^ 63 = pow-le-pow-right {n = 2} (omega arith) g in omega arith
+
+pub power-some : (w : ℕ) → w < 64 → 0 < 1 * 2 ^ w % 2 ^ 64
+power-some w h = rw (power-shifted w h) (one-le-pow w 2 (omega arith))
+
+pub part-told : {r : Range} {c : Cursor} {w k : ℕ} {g : Got} (v b : ℕ) → w ≡ k → k < 64 → FromLowest r c (v / 2 ^ b % (1 * 2 ^ w % 2 ^ 64)) g → FromLowest r c (v / 2 ^ b % 2 ^ k) g
+part-told {k = k} v b e h t = rw (e, power-shifted k h) at t
+
+-- the n bits behind the first m, of which k stand behind those
+part-stands : {s : List ℕ} {e p v b q : ℕ} (m n k : ℕ) → Stands s e p (m + n + k) v → q ≡ p + m → b ≡ k → Stands s e q n (v / 2 ^ b % 2 ^ n)
+part-stands m n k h i j = rw (i, j) (stands-last m n (stands-first (m + n) k h))
+
 -- the numbers are told by the cursor behind the second pull, which takes the marks of one after another
-pub at-once : {s : List ℕ} {c : Cursor} {first second : Got} (year month day hours minutes seconds : Got)
-    → Pulls s c 21 first → first .c .why ≡ 0 → Pulls s (first .c) 12 second → second .c .why ≡ 0
-    → FromLowest (rowAt rows.year) (second .c) (first .v / 16384) year
-    → FromLowest (rowAt rows.month) (year .c) (first .v / 1024 % 16) month
-    → FromLowest (rowAt rows.day) (month .c) (first .v / 32 % 32) day
-    → FromLowest (rowAt rows.hours) (day .c) (first .v % 32) hours
-    → FromLowest (rowAt rows.minutes) (hours .c) (second .v / 64) minutes
-    → FromLowest (rowAt rows.minutes) (minutes .c) (second .v % 64) seconds
+pub at-once : {s : List ℕ} {c : Cursor} {first second : Got} {wide behind-year behind-month behind-day narrow behind-minutes : ℕ} (year month day hours minutes seconds : Got)
+    → Pulls s c wide first → first .c .why ≡ 0 → Pulls s (first .c) narrow second → second .c .why ≡ 0
+    → FromLowest (rowAt rows.year) (second .c) (first .v / 2 ^ behind-year % 2 ^ bits rows.year) year
+    → FromLowest (rowAt rows.month) (year .c) (first .v / 2 ^ behind-month % 2 ^ bits rows.month) month
+    → FromLowest (rowAt rows.day) (month .c) (first .v / 2 ^ behind-day % 2 ^ bits rows.day) day
+    → FromLowest (rowAt rows.hours) (day .c) (first .v / 2 ^ 0 % 2 ^ bits rows.hours) hours
+    → FromLowest (rowAt rows.minutes) (hours .c) (second .v / 2 ^ behind-minutes % 2 ^ bits rows.minutes) minutes
+    → FromLowest (rowAt rows.minutes) (minutes .c) (second .v / 2 ^ 0 % 2 ^ bits rows.minutes) seconds
+    → behind-day ≡ bits rows.hours → behind-month ≡ behind-day + bits rows.day → behind-year ≡ behind-month + bits rows.month → wide ≡ behind-year + bits rows.year
+    → behind-minutes ≡ bits rows.minutes → narrow ≡ behind-minutes + bits rows.minutes
     → c .end < 2 ^ 64
     → DateTimes s c (time c year month day hours minutes seconds)
 unfolding extent width widthIn
-at-once {s} {c} {first} {second} year month day hours minutes seconds p h q k y m d u n z fits = record { takes = takes-inside λ i. go i .takes }
+at-once {s} {c} {first} {second} {wide = wide} {narrow = narrow} year month day hours minutes seconds p h q k y m d u n z b₁ b₂ b₃ b₄ b₅ b₆ fits = record { takes = takes-inside λ i. go i .takes }
   where
     go : Inside s c → DateTimes s c (time c year month day hours minutes seconds)
     go i =
-        let f = pull-went p h i in
-        let g = pull-went q k (rw (f .to) (f .stands .room, i .1)) in
+        let w : wide ≡ 21 = omega arith in
+        let v : narrow ≡ 12 = omega arith in
+        let f = pull-went (rw w at p) h i in
+        let g = pull-went (rw v at q) k (rw (f .to) (f .stands .room, i .1)) in
         let a = f .stands in
         let b : Stands s (c .end) (c .at + 21) 12 (second .v) = rw (f .to) at (g .stands) in
         let to : second .c ≡ put c (c .at + 21 + 12) 0 (c .marks) = g .to ∙ rw (f .to) in
         rw (told-at c (told-at c (told-at c (told-at c (told-at c (told-at c to y) m) d) u) n) z)
         (in-a-row _ _ _ _ _ _ fits
-        (ranged-at c (c .at + 7) (f .from) refl y (stands-first 7 14 a) refl)
-        (ranged-at c (c .at + 11) refl refl m (stands-last 7 4 (stands-first 11 10 a)) (omega arith))
-        (ranged-at c (c .at + 16) refl refl d (stands-last 11 5 (stands-first 16 5 a)) (omega arith))
-        (ranged-at c (c .at + 21) refl refl u (stands-last 16 5 a) (omega arith))
-        (ranged-at c (c .at + 21 + 6) refl refl n (stands-first 6 6 b) refl)
-        (ranged-at c (c .at + 21 + 12) refl refl z (stands-last 6 6 b) (omega arith)))
+        (ranged-at c (c .at + 7) (f .from) refl y (part-stands 0 7 14 a (omega arith) (omega arith)) refl)
+        (ranged-at c (c .at + 11) refl refl m (part-stands 7 4 10 a refl (omega arith)) (omega arith))
+        (ranged-at c (c .at + 16) refl refl d (part-stands 11 5 5 a refl (omega arith)) (omega arith))
+        (ranged-at c (c .at + 21) refl refl u (part-stands 16 5 0 a refl refl) (omega arith))
+        (ranged-at c (c .at + 21 + 6) refl refl n (part-stands 0 6 6 b (omega arith) (omega arith)) refl)
+        (ranged-at c (c .at + 21 + 12) refl refl z (part-stands 6 6 0 b refl refl) (omega arith)))
 
 -- and told, each number at its place
 pub told-time : {w w₁ w₂ w₃ w₄ w₅ w₆ : List ℕ} {n n₁ n₂ n₃ n₄ n₅ n₆ : ℕ} {v : DateTime} {b d e f g : ℕ}

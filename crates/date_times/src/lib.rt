@@ -1,13 +1,17 @@
 // A date and time: six numbers, as values and as records.
-ghost use Prim.Native.Nat.{_<_, _^_};
+ghost use Prim.Native.Nat.{_/_, _%_, _^_, _<_};
+ghost use Rattle.field_ranges.specs.Ranges.{widthOf};
 ghost use Rattle.records.specs.Told.{Told};
+ghost use Rattle.ranged_numbers.specs.Numbers.{FromLowest};
 ghost use Rattle.date_times.specs.Times.{DateTimes, dateTimeRecs};
 use cursor::place::Cursor;
+use cursor::place::Got;
 use cursor::place::bits;
 use field_ranges::table::DAY;
 use field_ranges::table::HOURS;
 use field_ranges::table::MINUTES;
 use field_ranges::table::MONTH;
+use field_ranges::table::Range;
 use field_ranges::table::YEAR;
 use numbers::one_by_one;
 use ranged_numbers::from_lowest;
@@ -32,22 +36,35 @@ pub struct DateTimeAt {
     pub c: Cursor,
 }
 
-// Where the window has all of it, two reads: 21 bits up to the hours, 12 behind them. Else its numbers are read one by one, so that the reading stops at the one that lacks bits.
+// A number of the range among the bits of v, with so many of them behind it, told by the cursor c.
+fn part(c: Cursor, v: u64, behind: usize, range: Range) -> Got
+    requires { ⌜ (behind < 64) × (widthOf range < 64) ⌝ }
+    ensures { λ r. ⌜ FromLowest range c (v / 2 ^ behind % 2 ^ widthOf range) r ⌝ }
+{
+    let wide = range.width();
+    from_lowest(c, (v >> behind) % (1 << wide), range)
+}
+
+// Where the window has all of it, two reads: up to the hours, and behind them. Else its numbers are read one by one, so that the reading stops at the one that lacks bits.
 pub fn read_date_time(s: &[u8], c: Cursor) -> DateTimeAt
     ensures { λ r. ⌜ DateTimes (now (s .entry)) c r ⌝ }
 {
-    let first = bits(s, c, 21);
+    let behind_day = HOURS.width();
+    let behind_month = behind_day + DAY.width();
+    let behind_year = behind_month + MONTH.width();
+    let first = bits(s, c, behind_year + YEAR.width());
     let d = first.c;
     if d.why == 0 {
-        let second = bits(s, d, 12);
+        let behind_minutes = MINUTES.width();
+        let second = bits(s, d, behind_minutes + MINUTES.width());
         let e = second.c;
         if e.why == 0 {
-            let year = from_lowest(e, first.v / 16384, YEAR);
-            let month = from_lowest(year.c, first.v / 1024 % 16, MONTH);
-            let day = from_lowest(month.c, first.v / 32 % 32, DAY);
-            let hours = from_lowest(day.c, first.v % 32, HOURS);
-            let minutes = from_lowest(hours.c, second.v / 64, MINUTES);
-            let seconds = from_lowest(minutes.c, second.v % 64, MINUTES);
+            let year = part(e, first.v, behind_year, YEAR);
+            let month = part(year.c, first.v, behind_month, MONTH);
+            let day = part(month.c, first.v, behind_day, DAY);
+            let hours = part(day.c, first.v, 0, HOURS);
+            let minutes = part(hours.c, second.v, behind_minutes, MINUTES);
+            let seconds = part(minutes.c, second.v, 0, MINUTES);
             let end = seconds.c;
             let time = DateTime {
                 at: c.at,
