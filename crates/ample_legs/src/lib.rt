@@ -17,6 +17,9 @@ use ample_readings::given_up;
 use cpdlc_tags::ROUTE_INFORMATION;
 use records::store;
 
+// The bits of an index: there are five alternatives.
+const INDEX: usize = 3;
+
 // Two places with a bearing each.
 fn read_between(s: &[u8], words: &mut [u64], n: usize, at: usize) -> Step
     requires { ⌜ (n < 2 ^ 25) × (space (n + 30) ≤ length (now words)) × (at < 2 ^ 55) × (at + 312 ≤ length (now s) * 8) ⌝ }
@@ -42,19 +45,20 @@ pub fn read_route_information(s: &[u8], words: &mut [u64], n: usize, at: usize) 
     requires { ⌜ (n < 2 ^ 24) × (space (n + 31) ≤ length (now words)) × (at < 2 ^ 54) × (at + 320 ≤ length (now s) * 8) ⌝ }
     ensures { λ r. ⌜ Ample 31 245 routeInformation (now (s .entry)) at n (now (words .entry)) (now (words .exit)) r ⌝ }
 {
-    let index = first(ahead(s, at), 3);
+    let index = first(ahead(s, at), INDEX);
     let m = store(words, n, ROUTE_INFORMATION, 0, index, 0, at);
+    let p = at + INDEX;
     if index == 0 {
-        return read_published(s, words, m, at + 3);
+        return read_published(s, words, m, p);
     }
     if index == 1 {
-        return read_pair(s, words, m, at + 3);
+        return read_pair(s, words, m, p);
     }
     if index == 2 {
-        return read_between(s, words, m, at + 3);
+        return read_between(s, words, m, p);
     }
     if index == 4 {
-        return read_designator(s, words, m, at + 3);
+        return read_designator(s, words, m, p);
     }
     given_up()
 }

@@ -4,12 +4,14 @@ use mathlib.Core.List.{List, [], _∷_, _++_, append-nil}
 use Prim.Native.Nat.{ℕ, zero, suc, _+_, _-_, _*_, _/_, _%_, _^_, _≤_, _<_}
 use native.Mathlib.Omega.{arith}
 use lib.ListN.{length, drop}
+use borrow.Author.Tests.{ne-eqb}
 use Rattle.x691.specs.Bits.{bitOf, uint}
 use Rattle.x691.specs.Types.{extent}
 use Rattle.x691.specs.Encoding.{width, widthIn, highest, count}
 use Rattle.x691.proofs.BitLaws.{uint-one}
 use Rattle.per.proofs.Laws.{uint-below, uint-below-wide}
-use Rattle.atn.specs.Format.{num, seq, end, _⨾_, none-left, _∥_}
+use Rattle.per.proofs.Widths.{width-le}
+use Rattle.atn.specs.Format.{Alts, num, seq, end, _⨾_, none-left, _∥_}
 use Rattle.atn.specs.Reading.{Rec, rec, Ctx, over, or, pack, packs, units, flags, read, readChoice}
 use Rattle.atn.specs.Messages as message
 use Rattle.atn.proofs.Marks.{or-nil}
@@ -18,8 +20,11 @@ use Rattle.cursor.proofs.FormatLaws.{allRead}
 use Rattle.records.specs.Told.{Told}
 use Rattle.ample_bits.specs.Ahead.{Ahead}
 use Rattle.ample_bits.proofs.AheadLaws.{first-spelt, behind-ahead}
+use Rattle.ample_readings.specs.declared.Step.{Step}
 use Rattle.ample_readings.specs.Sure.{Sure}
+use Rattle.ample_readings.specs.Ample.{Ample}
 use Rattle.ample_readings.proofs.SureLaws.{sure-num, sure-choice, sure-seq, sure-plain, sure-must, sure-last, sure-end, sure-absent, sure-last-present, sure-text}
+use Rattle.ample_readings.proofs.AmpleLaws.{ample-before}
 
 length-packs : (t m q n k : ℕ) (cs : List ℕ) → length (packs t m q n k cs) ≡ k
 unfolding packs
@@ -33,9 +38,35 @@ told-one t q at k s h l p =
     let us = units (bitOf s) 7 at k in
     record { count = p .count; few = omega (arith, p .count, length-packs t 0 q (length us) ((length us + 7) / 8) us, length-units (bitOf s) 7 at k); room = p .room; before = p .before; words = p .words }
 
--- what three bits behind the first spell
-pub raw-few : {s : List ℕ} {at v b raw : ℕ} (w : ℕ) → Ahead s at 57 v → b ≡ v * 2 ^ 1 % 2 ^ 64 → raw ≡ b / 2 ^ (64 - w) → w ≤ 3 → raw < 8
-raw-few {s} {at} w a f g l = rw (g ∙ first-spelt (rw (← f) at (behind-ahead a 1 (omega arith))) w (omega arith)) (uint-below-wide 3 s (at + 1) w l)
+---------------------------------------------------------------- sizes
+
+extent-plain : (lo hi : ℕ) → lo ≤ hi → hi < 2 ^ 64 → extent lo hi ≡ hi - lo
+unfolding extent
+extent-plain lo hi h l = omega arith
+
+width-some : (d : ℕ) → 1 ≤ d → 1 ≤ width d
+unfolding width widthIn
+width-some zero h = absurd (omega arith)
+width-some (suc d) h = some d
+  where
+    some : (k : ℕ) → 1 ≤ widthIn (suc k) (suc d)
+    some k = rw (ne-eqb (suc d) 0 (λ e. omega arith), widthIn) (omega arith)
+
+-- the bits of a size that has two to eight values
+pub size-wide : (lo hi : ℕ) {w : ℕ} → lo < hi → hi ≤ lo + 7 → hi < 2 ^ 64 → w ≡ width (extent lo hi) → (width (hi - lo) ≡ w) × (1 ≤ w) × (w ≤ 3)
+size-wide lo hi h l m e =
+    let q : _ ≡ width (hi - lo) = rw (extent-plain lo hi (omega arith) m) at e in
+    (sym q, omega (arith, q, width-some (hi - lo) (omega arith)), omega (arith, q, width-le 3 (hi - lo) (omega arith)))
+
+-- what at most k bits spell
+pub first-below : {s : List ℕ} {at j v raw : ℕ} (k w : ℕ) → Ahead s at j v → raw ≡ v / 2 ^ (64 - w) → w ≤ k → w ≤ j → raw < 2 ^ k
+first-below {s} {at} k w a g l h = rw (g ∙ first-spelt a w h) (uint-below-wide k s at w l)
+
+-- the same behind the first bit
+pub second-below : {s : List ℕ} {at v b raw : ℕ} (k w : ℕ) → Ahead s at 57 v → b ≡ v * 2 ^ 1 % 2 ^ 64 → raw ≡ b / 2 ^ (64 - w) → w ≤ k → w ≤ 56 → raw < 2 ^ k
+second-below k w a f g l h = first-below k w (rw (← f) at (behind-ahead a 1 (omega arith))) g l h
+
+---------------------------------------------------------------- places
 
 module _ {s : List ℕ} {at v has b raw k w : ℕ} (most : ℕ) (a : Ahead s at 57 v) (e : has ≡ v / 2 ^ (64 - 1)) (f : b ≡ v * 2 ^ 1 % 2 ^ 64) (g : raw ≡ b / 2 ^ (64 - w)) (h : k ≡ raw + 1) (l : w ≤ 3) (q : width (most - 1) ≡ w) where
   bit : has ≡ bitOf s at
@@ -55,35 +86,33 @@ module _ {s : List ℕ} {at v has b raw k w : ℕ} (most : ℕ) (a : Ahead s at 
   unfolding flags allRead
   named-placed t z y = sure-seq 1 refl refl (sure-must {q = at} (sure-text t 1 most w q size) (sure-last-present (sym bit ∙ z) y))
 
--- the bits of the sizes of a fix and of a navaid
-pub fix-wide : {w : ℕ} → w ≡ width (extent 1 5) → (width 4 ≡ w) × (w ≡ 3)
+-- the kind of a published place, told before, and the place
+abbrev places : Alts
+places = message.named 99 5 ∥ message.named 100 4 ∥ none-left
+
+pub published-named : {t most : ℕ} {s : List ℕ} {at n m v kind : ℕ} {w w₁ w₂ : List ℕ} {r : Step} → Ahead s at 57 v → kind ≡ v / 2 ^ (64 - 1) → Told 1 w w₁ n m (rec 98 0 kind 0 at ∷ [])
+    → ((x : Ctx) (e p : ℕ) → readChoice places kind x (bitOf s) e p ≡ read (message.named t most) x (bitOf s) e p) → Ample 12 110 (message.named t most) s (at + 1) m w₁ w₂ r → Ample 13 111 message.published s at n w w₂ r
+unfolding width widthIn highest count
+published-named {t} {most} a e told c x =
+    ample-before 1 told x (omega arith) (omega arith) (omega arith) (λ i S y. sure-choice 98 places (message.named t most) 1 _ refl (e ∙ first-spelt a 1 (omega arith)) (c (0, i)) y)
+
+---------------------------------------------------------------- bearings and designators
+
+-- the width of the range of degrees
+pub degrees-wide : {w : ℕ} → w ≡ width (extent 1 360) → w ≡ 9
 unfolding extent width widthIn
-fix-wide p = (sym p, p)
-
-pub navaid-wide : {w : ℕ} → w ≡ width (extent 1 4) → (width 3 ≡ w) × (w ≡ 2)
-unfolding extent width widthIn
-navaid-wide p = (sym p, p)
-
--- the kind of a published place, and the place
-module _ {x : Ctx} {s : List ℕ} {at v kind q m : ℕ} {R : List Rec} (a : Ahead s at 57 v) (e : kind ≡ v / 2 ^ (64 - 1)) where
-  pub published-fix : kind ≡ 0 → Sure (message.named 99 5) x s (at + 1) q R m → Sure message.published x s at q (rec 98 (x .0) kind 0 at ∷ R) m
-  unfolding width widthIn highest count readChoice
-  published-fix z y = sure-choice 98 _ (message.named 99 5) 1 kind refl (e ∙ first-spelt a 1 (omega arith)) (λ u p. rw z) y
-
-  pub published-navaid : kind ≡ 1 → Sure (message.named 100 4) x s (at + 1) q R m → Sure message.published x s at q (rec 98 (x .0) kind 0 at ∷ R) m
-  unfolding width widthIn highest count readChoice
-  published-navaid z y = sure-choice 98 _ (message.named 100 4) 1 kind refl (e ∙ first-spelt a 1 (omega arith)) (λ u p. rw z) y
+degrees-wide q = q
 
 -- the kind of a bearing and its number, of which both kinds have one range
-pub degrees-sure : {x : Ctx} {s : List ℕ} {at v kind b raw : ℕ} → Ahead s at 57 v → kind ≡ v / 2 ^ (64 - 1) → b ≡ v * 2 ^ 1 % 2 ^ 64 → raw ≡ b / 2 ^ (64 - 9)
-    → Sure message.degrees x s at (at + 10) (rec 55 (x .0) kind 0 at ∷ rec 56 (x .0) (raw + 1) 0 (at + 1) ∷ []) (over 359 raw)
-unfolding width widthIn highest count readChoice extent
-degrees-sure {x} {s} {at} {kind = kind} {raw = raw} a e f g =
-    let u : raw ≡ uint (bitOf s) (at + 1) 9 = g ∙ first-spelt (rw (← f) at (behind-ahead a 1 (omega arith))) 9 (omega arith) in
+pub degrees-sure : {x : Ctx} {s : List ℕ} {at v kind b raw d w : ℕ} → d ≡ extent 1 360 → w ≡ width (extent 1 360) → Ahead s at 57 v → kind ≡ v / 2 ^ (64 - 1) → b ≡ v * 2 ^ 1 % 2 ^ 64 → raw ≡ b / 2 ^ (64 - w)
+    → Sure message.degrees x s at (at + 1 + w) (rec 55 (x .0) kind 0 at ∷ rec 56 (x .0) (1 + raw) 0 (at + 1) ∷ []) (over d raw)
+unfolding width widthIn highest count readChoice
+degrees-sure {x} {s} {at} {kind = kind} {raw = raw} {d} {w} p q a e f g =
+    let n : w ≤ 9 = omega (arith, degrees-wide q) in
+    let u : raw ≡ uint (bitOf s) (at + 1) w = g ∙ first-spelt (rw (← f) at (behind-ahead a 1 (omega arith))) w (omega arith) in
     let k : kind ≡ uint (bitOf s) at 1 = e ∙ first-spelt a 1 (omega arith) in
-    let o : at + 1 + 9 ≡ at + 10 = omega arith in
-    let i : 1 + raw ≡ raw + 1 = omega arith in
-    rw (o, i) at (sure-choice {x = x} 55 (num 56 1 360 ∥ num 56 1 360 ∥ none-left) (num 56 1 360) 1 kind refl k (λ d p. one kind (omega (arith, k, uint-below s at 1)) d p) (sure-num {x = x} 56 1 360 359 9 refl refl u (omega (arith, u, uint-below s (at + 1) 9))))
+    sure-choice {x = x} 55 (num 56 1 360 ∥ num 56 1 360 ∥ none-left) (num 56 1 360) 1 kind refl k (λ d p. one kind (omega (arith, k, uint-below s at 1)) d p)
+    (sure-num {x = x} 56 1 360 d w (sym p) (rw p (sym q)) u (omega (arith, u, uint-below-wide 9 s (at + 1) w n)))
   where
     one : (i : ℕ) → i < 2 → (d p : ℕ) → readChoice (num 56 1 360 ∥ num 56 1 360 ∥ none-left) i x (bitOf s) d p ≡ read (num 56 1 360) x (bitOf s) d p
     one zero h d p = refl
@@ -94,6 +123,5 @@ pub bearing-sure : {x : Ctx} {s : List ℕ} {at p q m n : ℕ} {R S : List Rec} 
 unfolding flags allRead
 bearing-sure {at = at} y z = sure-plain refl refl (sure-must {q = at} y (sure-last z))
 
-pub designator-sure : {x : Ctx} {s : List ℕ} {at v raw k : ℕ} → Ahead s at 57 v → raw ≡ v / 2 ^ (64 - 3) → k ≡ raw + 2 → Sure (message.ia5 101 2 7) x s at (at + 3 + k * 7) (pack 101 (x .0) at (units (bitOf s) 7 (at + 3) k)) (over 7 k)
-unfolding width widthIn
-designator-sure a e f = sure-text 101 2 7 3 refl (omega (arith, e ∙ first-spelt a 3 (omega arith)))
+pub designator-sure : {x : Ctx} {s : List ℕ} {at v raw k w : ℕ} → width 5 ≡ w → w ≤ 3 → Ahead s at 57 v → raw ≡ v / 2 ^ (64 - w) → k ≡ raw + 2 → Sure (message.ia5 101 2 7) x s at (at + w + k * 7) (pack 101 (x .0) at (units (bitOf s) 7 (at + w) k)) (over 7 k)
+designator-sure {w = w} q l a e f = sure-text 101 2 7 w q (omega (arith, e ∙ first-spelt a w (omega arith)))

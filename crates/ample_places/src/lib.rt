@@ -24,10 +24,21 @@ use cpdlc_tags::PUBLISHED;
 use cpdlc_tags::PUBLISHED_FIX;
 use cpdlc_tags::PUBLISHED_NAVAID;
 use cpdlc_tags::ROUTE_DESIGNATOR;
+use field_ranges::table::DEGREES_0;
 use field_ranges::table::FIX_SIZE;
 use field_ranges::table::NAVAID_SIZE;
+use field_ranges::table::ROUTE_SIZE;
 use records::store;
 use tell::tell_text;
+
+// The bits of a character.
+const CHARACTER: usize = 7;
+
+// The characters of one record are at most as many.
+const RECORD: usize = 8;
+
+// The bits of the kind of a place or a bearing, of which there are two.
+const KIND: usize = 1;
 
 // A text of at most eight characters, from `at` on, of a field that starts at `from`: one record.
 fn short_text(
@@ -50,28 +61,29 @@ fn short_text(
     tell_text(words, n, tag, 0, s, x)
 }
 
-// A name whose size is from 1 to the most, and its coordinates, which may be absent.
+// A name by the ends and the width of its size, and its coordinates, which may be absent.
 fn read_named(
     s: &[u8],
     words: &mut [u64],
     n: usize,
     at: usize,
     tag: u64,
-    most: usize,
+    least: usize,
+    most: u64,
     wide: usize,
 ) -> Step
-    requires { ⌜ (n < 2 ^ 28) × (space (n + 12) ≤ length (now words)) × (at < 2 ^ 58) × (at + 160 ≤ length (now s) * 8) × (most ≤ 8) × (width (most - 1) ≡ wide) × (1 ≤ wide) × (wide ≤ 3) ⌝ }
+    requires { ⌜ (n < 2 ^ 28) × (space (n + 12) ≤ length (now words)) × (at < 2 ^ 58) × (at + 160 ≤ length (now s) * 8) × (least ≡ 1) × (width (most - 1) ≡ wide) × (1 ≤ wide) × (wide ≤ 3) ⌝ }
     ensures { λ r. ⌜ Ample 12 110 (message.named tag most) (now (s .entry)) at n (now (words .entry)) (now (words .exit)) r ⌝ }
 {
     let v = ahead(s, at);
     let has = first(v, 1);
     let raw = first(behind(v, 1), wide);
-    let size = raw as usize + 1;
+    let size = raw as usize + least;
     let from = at + 1;
     let p = from + wide;
     let m = short_text(s, words, n, tag, from, p, size);
-    let q = p + size * 7;
-    let marks = above(size as u64, most as u64);
+    let q = p + size * CHARACTER;
+    let marks = above(size as u64, most);
     if has == 0 {
         return Step {
             at: q,
@@ -91,28 +103,43 @@ pub fn read_published(s: &[u8], words: &mut [u64], n: usize, at: usize) -> Step
     requires { ⌜ (n < 2 ^ 27) × (space (n + 13) ≤ length (now words)) × (at < 2 ^ 57) × (at + 168 ≤ length (now s) * 8) ⌝ }
     ensures { λ r. ⌜ Ample 13 111 message.published (now (s .entry)) at n (now (words .entry)) (now (words .exit)) r ⌝ }
 {
-    let kind = first(ahead(s, at), 1);
+    let kind = first(ahead(s, at), KIND);
     let m = store(words, n, PUBLISHED, 0, kind, 0, at);
+    let p = at + KIND;
     if kind == 0 {
+        let least = FIX_SIZE.lo as usize;
         let wide = FIX_SIZE.width();
-        return read_named(s, words, m, at + 1, PUBLISHED_FIX, 5, wide);
+        return read_named(s, words, m, p, PUBLISHED_FIX, least, FIX_SIZE.hi, wide);
     }
+    let least = NAVAID_SIZE.lo as usize;
     let wide = NAVAID_SIZE.width();
-    read_named(s, words, m, at + 1, PUBLISHED_NAVAID, 4, wide)
+    read_named(
+        s,
+        words,
+        m,
+        p,
+        PUBLISHED_NAVAID,
+        least,
+        NAVAID_SIZE.hi,
+        wide,
+    )
 }
 
+// Both kinds of degrees have one range.
 pub fn read_degrees(s: &[u8], words: &mut [u64], n: usize, at: usize) -> Step
     requires { ⌜ (n < 2 ^ 30) × (space (n + 2) ≤ length (now words)) × (at < 2 ^ 60) × (at + 64 ≤ length (now s) * 8) ⌝ }
     ensures { λ r. ⌜ Ample 2 10 message.degrees (now (s .entry)) at n (now (words .entry)) (now (words .exit)) r ⌝ }
 {
     let v = ahead(s, at);
-    let kind = first(v, 1);
-    let raw = first(behind(v, 1), 9);
+    let kind = first(v, KIND);
+    let wide = DEGREES_0.width();
+    let raw = first(behind(v, KIND), wide);
+    let p = at + KIND;
     let m = store(words, n, DEGREES, 0, kind, 0, at);
-    let k = store(words, m, DEGREES_NUMBER, 0, raw + 1, 0, at + 1);
-    let marks = above(raw, 359);
+    let k = store(words, m, DEGREES_NUMBER, 0, DEGREES_0.lo + raw, 0, p);
+    let marks = above(raw, DEGREES_0.extent());
     Step {
-        at: at + 10,
+        at: p + wide,
         n: k,
         marks: marks,
     }
@@ -143,15 +170,17 @@ pub fn read_designator(s: &[u8], words: &mut [u64], n: usize, at: usize) -> Step
     requires { ⌜ (n < 2 ^ 30) × (at < 2 ^ 59) × (at + 64 ≤ length (now s) * 8) ⌝ }
     ensures { λ r. ⌜ Ample 1 59 (message.ia5 101 2 7) (now (s .entry)) at n (now (words .entry)) (now (words .exit)) r ⌝ }
 {
-    let raw = first(ahead(s, at), 3);
-    if raw == 7 {
+    let wide = ROUTE_SIZE.width();
+    let raw = first(ahead(s, at), wide);
+    let size = raw as usize + ROUTE_SIZE.lo as usize;
+    if RECORD < size {
         return given_up();
     }
-    let size = raw as usize + 2;
-    let m = short_text(s, words, n, ROUTE_DESIGNATOR, at, at + 3, size);
-    let marks = above(size as u64, 7);
+    let p = at + wide;
+    let m = short_text(s, words, n, ROUTE_DESIGNATOR, at, p, size);
+    let marks = above(size as u64, ROUTE_SIZE.hi);
     Step {
-        at: at + 3 + size * 7,
+        at: p + size * CHARACTER,
         n: m,
         marks: marks,
     }

@@ -2,14 +2,13 @@ use borrow.Author.Needs.{needs}
 use native.Mathlib.Omega.{arith}
 use Rattle.atn.specs.Reading.{or}
 use Rattle.ample_readings.proofs.SureLaws.{sure-two}
-use Rattle.ample_readings.proofs.AmpleLaws.{ample-after, ample-none, ample-untold, room-of, room-fewer, room-after}
+use Rattle.ample_readings.proofs.AmpleLaws.{ample-after, ample-none, ample-untold}
+use Rattle.ample_places.proofs.RoomLaws.{fits-fewer, fits-on}
 use Rattle.ample_legs.proofs.read_between.Statement.{statement}
 use Rattle.ample_legs.proofs.read_between.Tie as tie
 
 read-bearing-requires : tie.Need-read-bearing-requires
-read-bearing-requires c κs =
-    let a = c .before .before .before in
-    (omega (arith, a .pre .0), room-fewer 15 (room-of 30 (a .args .n) (a .args .words .now) (omega (arith, a .pre .0)) (omega arith) (a .pre .1)) (omega arith), omega (arith, a .pre .2), omega (arith, a .pre .3))
+read-bearing-requires c κs = fits-fewer 15 176 (c .before .before .before .pre) (omega arith) (omega arith) (omega arith) (omega arith)
 
 returns : tie.Need-returns
 returns c = ample-none (ample-untold (c .before .before .before .read-bearing .ensures)) (c .if1 .taken)
@@ -17,9 +16,8 @@ returns c = ample-none (ample-untold (c .before .before .before .read-bearing .e
 read-bearing-requires-2 : tie.Need-read-bearing-requires-2
 read-bearing-requires-2 c κs =
     let b = c .before .before .before .before in
-    let a = b .before .before .before .before in
     let d = b .read-bearing .ensures .done (c .before .if1 .left) in
-    (omega (arith, a .pre .0, d .told .few), room-after 15 (room-of 30 (a .args .n) (a .args .words .now) (omega (arith, a .pre .0)) (omega arith) (a .pre .1)) (d .told) (omega arith), omega (arith, a .pre .2, d .near), omega (arith, a .pre .3, d .near))
+    fits-on 15 121 176 (b .before .before .before .before .pre) (d .told) (d .near) (omega arith) (omega arith) (omega arith) (omega arith)
 
 returns-2 : tie.Need-returns-2
 unfolding or

@@ -2,8 +2,9 @@
 use borrow.Author.Needs.{needs}
 use native.Mathlib.Omega.{arith}
 use Rattle.atn.specs.Reading.{readChoice}
-use Rattle.records.proofs.Telling.{room-next, room-behind}
-use Rattle.ample_readings.proofs.AmpleLaws.{ample-none, room-of, room-fewer}
+use Rattle.records.proofs.Telling.{room-next}
+use Rattle.ample_readings.proofs.AmpleLaws.{ample-none, room-of}
+use Rattle.ample_places.proofs.RoomLaws.{fits-on}
 use Rattle.ample_legs.proofs.RouteLaws.{route-indexed}
 use Rattle.ample_legs.proofs.read_route_information.Statement.{statement}
 use Rattle.ample_legs.proofs.read_route_information.Tie as tie
@@ -12,33 +13,21 @@ store-requires : tie.Need-store-requires
 store-requires c κs = let a = c .before .before .before .before .before in room-next _ (room-of 31 (a .args .n) (a .args .words .now) (omega (arith, a .pre .0)) (omega arith) (a .pre .1))
 
 read-published-requires : tie.Need-read-published-requires
-read-published-requires c κs =
-    let b = c .before .before .before .before in
-    let a = b .before .before .before .before .before .before in
-    let r = room-behind (room-of 31 (a .args .n) (a .args .words .now) (omega (arith, a .pre .0)) (omega arith) (a .pre .1)) (b .store .ensures) in
-    (omega (arith, b .store .ensures .few, a .pre .0), room-fewer 13 r (omega arith), omega (arith, a .pre .2), omega (arith, a .pre .3))
+read-published-requires c κs = let b = c .before .before .before .before in fits-on 13 3 168 (b .before .before .before .before .before .before .pre) (b .store .ensures) (omega arith) (omega arith) (omega arith) (omega arith) (omega arith)
 
 returns : tie.Need-returns
 unfolding readChoice
 returns c = let b = c .before .before .before .before .before .before .before in let f = b .before .before in route-indexed (f .before .ahead .ensures) (f .first .ensures) (b .store .ensures) (λ x e p. rw (c .before .before .before .before .if1 .taken)) (omega arith) (omega arith) (c .before .before .read-published .ensures)
 
 read-pair-requires : tie.Need-read-pair-requires
-read-pair-requires c κs =
-    let b = c .before .before .before .before .before in
-    let a = b .before .before .before .before .before .before in
-    let r = room-behind (room-of 31 (a .args .n) (a .args .words .now) (omega (arith, a .pre .0)) (omega arith) (a .pre .1)) (b .store .ensures) in
-    (omega (arith, b .store .ensures .few, a .pre .0), room-fewer 11 r (omega arith), omega (arith, a .pre .2), omega (arith, a .pre .3))
+read-pair-requires c κs = let b = c .before .before .before .before .before in fits-on 11 3 96 (b .before .before .before .before .before .before .pre) (b .store .ensures) (omega arith) (omega arith) (omega arith) (omega arith) (omega arith)
 
 returns-2 : tie.Need-returns-2
 unfolding readChoice
 returns-2 c = let b = c .before .before .before .before .before .before .before .before in let f = b .before .before in route-indexed (f .before .ahead .ensures) (f .first .ensures) (b .store .ensures) (λ x e p. rw (c .before .before .before .before .if2 .taken)) (omega arith) (omega arith) (c .before .before .read-pair .ensures)
 
 read-between-requires : tie.Need-read-between-requires
-read-between-requires c κs =
-    let b = c .before .before .before .before .before .before in
-    let a = b .before .before .before .before .before .before in
-    let r = room-behind (room-of 31 (a .args .n) (a .args .words .now) (omega (arith, a .pre .0)) (omega arith) (a .pre .1)) (b .store .ensures) in
-    (omega (arith, b .store .ensures .few, a .pre .0), room-fewer 30 r (omega arith), omega (arith, a .pre .2), omega (arith, a .pre .3))
+read-between-requires c κs = let b = c .before .before .before .before .before .before in fits-on 30 3 312 (b .before .before .before .before .before .before .pre) (b .store .ensures) (omega arith) (omega arith) (omega arith) (omega arith) (omega arith)
 
 returns-3 : tie.Need-returns-3
 unfolding readChoice
@@ -48,7 +37,6 @@ read-designator-requires : tie.Need-read-designator-requires
 read-designator-requires c κs =
     let b = c .before .before .before .before .before .before .before in
     let a = b .before .before .before .before .before .before in
-    let r = room-behind (room-of 31 (a .args .n) (a .args .words .now) (omega (arith, a .pre .0)) (omega arith) (a .pre .1)) (b .store .ensures) in
     (omega (arith, b .store .ensures .few, a .pre .0), omega (arith, a .pre .2), omega (arith, a .pre .3))
 
 returns-4 : tie.Need-returns-4
@@ -62,4 +50,4 @@ pub read-route-information-spec : {M : Type 1} → statement M
 read-route-information-spec =
     tie.close
     (tie.spec
-    (λ c κs. search needs) (λ c κs. search needs) store-requires (λ c. search needs) read-published-requires (λ c. search needs) returns (λ c. search needs) read-pair-requires (λ c. search needs) returns-2 (λ c. search needs) read-between-requires (λ c. search needs) returns-3 (λ c. search needs) read-designator-requires (λ c. search needs) returns-4 (λ c κs. search needs) (λ c. search needs) returns-5)
+    (λ c κs. search needs) (λ c κs. search needs) store-requires (λ c. search needs) read-published-requires (λ c. search needs) returns read-pair-requires (λ c. search needs) returns-2 read-between-requires (λ c. search needs) returns-3 read-designator-requires (λ c. search needs) returns-4 (λ c κs. search needs) (λ c. search needs) returns-5)

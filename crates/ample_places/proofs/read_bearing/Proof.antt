@@ -1,15 +1,14 @@
 use borrow.Author.Needs.{needs}
 use native.Mathlib.Omega.{arith}
 use Rattle.atn.specs.Reading.{or}
-use Rattle.ample_readings.proofs.AmpleLaws.{ample-after, ample-none, ample-untold, room-of, room-fewer, room-after}
+use Rattle.ample_readings.proofs.AmpleLaws.{ample-after, ample-none, ample-untold}
+use Rattle.ample_places.proofs.RoomLaws.{fits-fewer, fits-on}
 use Rattle.ample_places.proofs.PlaceLaws.{bearing-sure}
 use Rattle.ample_places.proofs.read_bearing.Statement.{statement}
 use Rattle.ample_places.proofs.read_bearing.Tie as tie
 
 read-published-requires : tie.Need-read-published-requires
-read-published-requires c κs =
-    let a = c .before .before .before in
-    (omega (arith, a .pre .0), room-fewer 13 (room-of 15 (a .args .n) (a .args .words .now) (omega (arith, a .pre .0)) (omega arith) (a .pre .1)) (omega arith), omega (arith, a .pre .2), omega (arith, a .pre .3))
+read-published-requires c κs = fits-fewer 13 168 (c .before .before .before .pre) (omega arith) (omega arith) (omega arith) (omega arith)
 
 returns : tie.Need-returns
 returns c = ample-none (ample-untold (c .before .before .before .read-published .ensures)) (c .if1 .taken)
@@ -17,9 +16,8 @@ returns c = ample-none (ample-untold (c .before .before .before .read-published 
 read-degrees-requires : tie.Need-read-degrees-requires
 read-degrees-requires c κs =
     let b = c .before .before .before .before in
-    let a = b .before .before .before .before in
     let d = b .read-published .ensures .done (c .before .if1 .left) in
-    (omega (arith, a .pre .0, d .told .few), room-after 2 (room-of 15 (a .args .n) (a .args .words .now) (omega (arith, a .pre .0)) (omega arith) (a .pre .1)) (d .told) (omega arith), omega (arith, a .pre .2, d .near), omega (arith, a .pre .3, d .near))
+    fits-on 2 111 64 (b .before .before .before .before .pre) (d .told) (d .near) (omega arith) (omega arith) (omega arith) (omega arith)
 
 returns-2 : tie.Need-returns-2
 unfolding or
