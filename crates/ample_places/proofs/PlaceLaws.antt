@@ -1,9 +1,9 @@
 -- What is surely read of texts, names and places.
-use mathlib.Core.Path.{_≡_, refl, sym, ap, _∙_}
+use mathlib.Core.Path.{_≡_, refl, sym, _∙_}
 use mathlib.Core.List.{List, [], _∷_, _++_, append-nil}
 use Prim.Native.Nat.{ℕ, zero, suc, _+_, _-_, _*_, _/_, _%_, _^_, _≤_, _<_}
 use native.Mathlib.Omega.{arith}
-use lib.ListN.{length, drop}
+use lib.ListN.{length}
 use borrow.Author.Tests.{ne-eqb}
 use Rattle.x691.specs.Bits.{bitOf, uint}
 use Rattle.x691.specs.Types.{extent}
@@ -12,12 +12,15 @@ use Rattle.x691.proofs.BitLaws.{uint-one}
 use Rattle.per.proofs.Laws.{uint-below, uint-below-wide}
 use Rattle.per.proofs.Widths.{width-le}
 use Rattle.atn.specs.Format.{Alts, num, seq, end, _⨾_, none-left, _∥_}
-use Rattle.atn.specs.Reading.{Rec, rec, Ctx, over, or, pack, packs, units, flags, read, readChoice}
+use Rattle.atn.specs.Reading.{Rec, rec, Ctx, over, or, octets, pack, packs, units, flags, read, readChoice}
 use Rattle.atn.specs.Messages as message
 use Rattle.atn.proofs.Marks.{or-nil}
 use Rattle.atn.proofs.Texts.{length-units}
 use Rattle.cursor.proofs.FormatLaws.{allRead}
 use Rattle.records.specs.Told.{Told}
+use Rattle.character_strings.specs.declared.Text.{Text}
+use Rattle.tell.specs.Characters.{widened}
+use Rattle.tell.proofs.TextsTold.{sevens-told}
 use Rattle.ample_bits.specs.Ahead.{Ahead}
 use Rattle.ample_bits.proofs.AheadLaws.{first-spelt, behind-ahead}
 use Rattle.ample_readings.specs.declared.Step.{Step}
@@ -26,17 +29,20 @@ use Rattle.ample_readings.specs.Ample.{Ample}
 use Rattle.ample_readings.proofs.SureLaws.{sure-num, sure-choice, sure-seq, sure-plain, sure-must, sure-last, sure-end, sure-absent, sure-last-present, sure-text}
 use Rattle.ample_readings.proofs.AmpleLaws.{ample-before}
 
-length-packs : (t m q n k : ℕ) (cs : List ℕ) → length (packs t m q n k cs) ≡ k
-unfolding packs
-length-packs t m q n zero cs = refl
-length-packs t m q n (suc k) cs = ap suc (length-packs t m q n k (drop 8 cs))
-
 -- a text of one to eight characters is one record
-pub told-one : (t q at k : ℕ) (s : List ℕ) {w w′ : List ℕ} {n m : ℕ} → 1 ≤ k → k ≤ 8 → Told 64 w w′ n m (pack t 0 q (units (bitOf s) 7 at k)) → Told 1 w w′ n m (pack t 0 q (units (bitOf s) 7 at k))
-unfolding pack
-told-one t q at k s h l p =
-    let us = units (bitOf s) 7 at k in
-    record { count = p .count; few = omega (arith, p .count, length-packs t 0 q (length us) ((length us + 7) / 8) us, length-units (bitOf s) 7 at k); room = p .room; before = p .before; words = p .words }
+packed-one : (t q at k : ℕ) (s : List ℕ) → 1 ≤ k → k ≤ 8 → pack t 0 q (units (bitOf s) 7 at k) ≡ rec t 0 (octets 8 (units (bitOf s) 7 at k)) k q ∷ []
+unfolding pack packs
+packed-one t q at k s h l = let e : (k + 7) / 8 ≡ 1 = omega arith in rw (length-units (bitOf s) 7 at k, e)
+
+pub told-one : {s : List ℕ} {t q at k v y u : ℕ} {w w′ : List ℕ} {n m : ℕ} → Ahead s at 57 v → at + 64 ≤ length s * 8 → at < 2 ^ 60 → 1 ≤ k → k ≤ 8 → u ≡ v / 2 ^ (64 - k * 7) → y ≡ widened 7 8 8 u * 2 ^ (64 - 8 * k) % 2 ^ 64
+    → Told 1 w w′ n m (rec t 0 y k q ∷ []) → Told 1 w w′ n m (pack t 0 q (units (bitOf s) 7 at k))
+told-one {s} {t} {q} {at} {k} {v} {y} {u} a i j h l e f p =
+    let x : Text = record { from = q; at = at; len = k } in
+    let z : at + 0 * 7 ≡ at = omega arith in
+    let d : k - 0 ≡ k = omega arith in
+    let g : u ≡ uint (bitOf s) (at + 0 * 7) (k * 7) = rw z (e ∙ first-spelt a (k * 7) (omega arith)) in
+    let o : y ≡ octets 8 (units (bitOf s) 7 at k) = rw (z, d) at (sevens-told {x = x} 0 (record { there = omega arith; fits = omega arith }) (omega arith) (omega arith) g f) in
+    rw (packed-one t q at k s h l, ← o) p
 
 ---------------------------------------------------------------- sizes
 

@@ -17,7 +17,6 @@ use ample_bits::first;
 use ample_readings::Step;
 use ample_readings::above;
 use ample_readings::given_up;
-use character_strings::Text;
 use cpdlc_tags::DEGREES;
 use cpdlc_tags::DEGREES_NUMBER;
 use cpdlc_tags::PUBLISHED;
@@ -29,7 +28,7 @@ use field_ranges::table::FIX_SIZE;
 use field_ranges::table::NAVAID_SIZE;
 use field_ranges::table::ROUTE_SIZE;
 use records::store;
-use tell::tell_text;
+use tell::spread::top_sevens;
 
 // The bits of a character.
 const CHARACTER: usize = 7;
@@ -50,15 +49,12 @@ fn short_text(
     at: usize,
     len: usize,
 ) -> usize
-    requires { ⌜ (n < 2 ^ 30) × (1 ≤ len) × (len ≤ 8) × (at < 2 ^ 60) × (at + 56 ≤ length (now s) * 8) ⌝ }
+    requires { ⌜ (n < 2 ^ 30) × (space (n + 1) ≤ length (now words)) × (at < 2 ^ 60) × (at + 64 ≤ length (now s) * 8) × (1 ≤ len) × (len ≤ 8) ⌝ }
     ensures { λ m. ⌜ Told 1 (now (words .entry)) (now (words .exit)) n m (pack tag 0 from (units (bitOf (now (s .entry))) 7 at len)) ⌝ }
 {
-    let x = Text {
-        from: from,
-        at: at,
-        len: len,
-    };
-    tell_text(words, n, tag, 0, s, x)
+    let v = first(ahead(s, at), len * CHARACTER);
+    let x = top_sevens(v, len);
+    store(words, n, tag, 0, x, len as u64, from)
 }
 
 // A name by the ends and the width of its size, and its coordinates, which may be absent.
@@ -167,7 +163,7 @@ pub fn read_bearing(s: &[u8], words: &mut [u64], n: usize, at: usize) -> Step
 
 // The designator of a route. One of nine characters, which is above its range and takes two records, is given up.
 pub fn read_designator(s: &[u8], words: &mut [u64], n: usize, at: usize) -> Step
-    requires { ⌜ (n < 2 ^ 30) × (at < 2 ^ 59) × (at + 64 ≤ length (now s) * 8) ⌝ }
+    requires { ⌜ (n < 2 ^ 30) × (space (n + 1) ≤ length (now words)) × (at < 2 ^ 59) × (at + 72 ≤ length (now s) * 8) ⌝ }
     ensures { λ r. ⌜ Ample 1 59 (message.ia5 101 2 7) (now (s .entry)) at n (now (words .entry)) (now (words .exit)) r ⌝ }
 {
     let wide = ROUTE_SIZE.width();

@@ -1,19 +1,20 @@
 -- The two alphabets: their characters as the contracts of the readers have them.
-use mathlib.Core.Path.{_≡_, refl, ap}
+use mathlib.Core.Path.{_≡_, refl, ap, _∙_}
 use mathlib.Core.Bool.{Bool, true, false}
 use mathlib.Core.List.{List, append-nil}
-use Prim.Native.Nat.{ℕ, _+_, _-_, _*_, _/_, _≤_, _<_}
-use native.Mathlib.Nat.{zero-mul}
+use Prim.Native.Nat.{ℕ, min, _+_, _-_, _*_, _/_, _%_, _^_, _≤_, _<_}
+use native.Mathlib.Nat.{zero-mul, add-zero}
 use native.Mathlib.Omega.{arith}
-use Rattle.x691.specs.Bits.{bitOf}
-use Rattle.atn.specs.Reading.{pack, coded, spaced, units, noneAbove}
+use Rattle.x691.specs.Bits.{bitOf, uint}
+use Rattle.atn.specs.Reading.{octets, pack, coded, spaced, units, noneAbove}
 use Rattle.records.specs.Told.{Told}
 use Rattle.records.proofs.Telling.{told-within, told-then}
 use Rattle.character_strings.specs.declared.Text.{Text}
 use Rattle.character_strings.specs.Texts.{textRecs, channelRecs, InFrame}
 use Rattle.character_strings.proofs.TextLaws.{coded-nil}
 use Rattle.tell.specs.declared.characters.Run.{Run}
-use Rattle.tell.specs.Characters.{unitsFrom, counted, from, Spelt}
+use Rattle.tell.specs.Characters.{unitsFrom, counted, from, Spelt, widened}
+use Rattle.tell.proofs.EightLaws.{eight-packed}
 
 module _ (s : List ℕ) (f at len w c : ℕ) where
   -- all of them
@@ -55,6 +56,11 @@ module _ {s : List ℕ} {x : Text} where
 
   pub spelt-channel : (t : Bool) → InFrame 4 s x → Spelt s (run s (x .from) (x .at) (x .len) 4 48 t)
   spelt-channel t h = record { there = h .there; fits = h .fits; narrow = omega arith; octet = omega arith; numeric = λ q. (refl, refl) }
+
+-- k of them from the one numbered i on, read as one number
+module _ {s : List ℕ} {x : Text} (i : ℕ) {k v y : ℕ} where
+  pub sevens-told : InFrame 7 s x → i < x .len → k ≡ min 8 (x .len - i) → v ≡ uint (bitOf s) (x .at + i * 7) (k * 7) → y ≡ widened 7 8 8 v * 2 ^ (64 - 8 * k) % 2 ^ 64 → y ≡ octets 8 (units (bitOf s) 7 (x .at + i * 7) (x .len - i))
+  sevens-told h l e f g = g ∙ (rw (zero-mul, add-zero, sevens-counted) at (eight-packed s (sevensOf x) i (spelt-text h) l e f refl .all))
 
 ---------------------------------------------------------------- their records
 

@@ -11,10 +11,10 @@ use characters::at_most_eight;
 use characters::tell_run;
 use per::number::wide;
 use records::emit;
-use spread::spread_sevens;
+use spread::top_sevens;
 
 mod characters; // characters.rt: characters by where they stand, whatever their alphabet
-mod spread; // spread.rt: characters of fewer bits, put into octets
+pub mod spread; // spread.rt: characters of fewer bits, put into octets
 
 // A text of seven-bit characters. It has a loop of its own, in which the compiler knows the width.
 pub fn tell_text(words: &mut [u64], n: usize, tag: u64, element: u64, s: &[u8], x: Text) -> usize
@@ -39,7 +39,7 @@ fn sevens(s: &[u8], x: Text, i: usize) -> u64
     ensures { λ v. ⌜ v ≡ octets 8 (units (bitOf (now (s .entry))) 7 (x .at + i * 7) (x .len - i)) ⌝ }
 {
     let k = at_most_eight(x.len - i);
-    spread_sevens(wide(s, x.at + i * 7, k * 7)) << (64 - 8 * k)
+    top_sevens(wide(s, x.at + i * 7, k * 7), k)
 }
 
 // The characters of a satellite channel, of four bits each: as the source has them, where raw 0 is the digit 0, and behind that with a tag of its own as X.680 has them, where raw 0 is the space and 10 the last digit.

@@ -3,12 +3,12 @@ use native.Mathlib.Omega.{arith}
 use Rattle.atn.specs.Reading.{or}
 use Rattle.ample_readings.proofs.SureLaws.{sure-two}
 use Rattle.ample_readings.proofs.AmpleLaws.{ample-after, ample-none, ample-untold}
-use Rattle.ample_places.proofs.RoomLaws.{fits-fewer, fits-on}
+use Rattle.ample_places.proofs.RoomLaws.{fits-ahead, fits-on}
 use Rattle.ample_legs.proofs.read_between.Statement.{statement}
 use Rattle.ample_legs.proofs.read_between.Tie as tie
 
 read-bearing-requires : tie.Need-read-bearing-requires
-read-bearing-requires c κs = fits-fewer 15 176 (c .before .before .before .pre) (omega arith) (omega arith) (omega arith) (omega arith)
+read-bearing-requires c κs = fits-ahead 15 0 176 (c .before .before .before .pre) (omega arith) (omega arith) (omega arith) (omega arith) (omega arith)
 
 returns : tie.Need-returns
 returns c = ample-none (ample-untold (c .before .before .before .read-bearing .ensures)) (c .if1 .taken)

@@ -34,10 +34,7 @@ unfolding readChoice
 returns-3 c = let b = c .before .before .before .before .before .before .before .before .before in let f = b .before .before in route-indexed (f .before .ahead .ensures) (f .first .ensures) (b .store .ensures) (λ x e p. rw (c .before .before .before .before .if3 .taken)) (omega arith) (omega arith) (c .before .before .read-between .ensures)
 
 read-designator-requires : tie.Need-read-designator-requires
-read-designator-requires c κs =
-    let b = c .before .before .before .before .before .before .before in
-    let a = b .before .before .before .before .before .before in
-    (omega (arith, b .store .ensures .few, a .pre .0), omega (arith, a .pre .2), omega (arith, a .pre .3))
+read-designator-requires c κs = let b = c .before .before .before .before .before .before .before in fits-on 1 3 72 (b .before .before .before .before .before .before .pre) (b .store .ensures) (omega arith) (omega arith) (omega arith) (omega arith) (omega arith)
 
 returns-4 : tie.Need-returns-4
 unfolding readChoice

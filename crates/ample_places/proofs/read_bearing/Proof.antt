@@ -2,13 +2,13 @@ use borrow.Author.Needs.{needs}
 use native.Mathlib.Omega.{arith}
 use Rattle.atn.specs.Reading.{or}
 use Rattle.ample_readings.proofs.AmpleLaws.{ample-after, ample-none, ample-untold}
-use Rattle.ample_places.proofs.RoomLaws.{fits-fewer, fits-on}
+use Rattle.ample_places.proofs.RoomLaws.{fits-ahead, fits-on}
 use Rattle.ample_places.proofs.PlaceLaws.{bearing-sure}
 use Rattle.ample_places.proofs.read_bearing.Statement.{statement}
 use Rattle.ample_places.proofs.read_bearing.Tie as tie
 
 read-published-requires : tie.Need-read-published-requires
-read-published-requires c κs = fits-fewer 13 168 (c .before .before .before .pre) (omega arith) (omega arith) (omega arith) (omega arith)
+read-published-requires c κs = fits-ahead 13 0 168 (c .before .before .before .pre) (omega arith) (omega arith) (omega arith) (omega arith) (omega arith)
 
 returns : tie.Need-returns
 returns c = ample-none (ample-untold (c .before .before .before .read-published .ensures)) (c .if1 .taken)

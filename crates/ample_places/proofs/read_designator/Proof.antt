@@ -1,10 +1,11 @@
 use mathlib.Core.Path.{_≡_}
-use Prim.Native.Nat.{_≤_, _<_}
+use Prim.Native.Nat.{_+_, _^_, _≤_, _<_}
 use borrow.Author.Needs.{needs}
 use native.Mathlib.Omega.{arith}
 use Rattle.x691.specs.Encoding.{width}
 use Rattle.records.proofs.Telling.{told-none}
 use Rattle.ample_readings.proofs.AmpleLaws.{ample-done, ample-none}
+use Rattle.ample_places.proofs.RoomLaws.{fits-ahead}
 use Rattle.ample_places.proofs.PlaceLaws.{size-wide, first-below, designator-sure}
 use Rattle.ample_places.proofs.read_designator.Statement.{statement}
 use Rattle.ample_places.proofs.read_designator.Tie as tie
@@ -25,19 +26,20 @@ returns : tie.Need-returns
 returns c = ample-none told-none (c .given-up .ensures)
 
 add-p : tie.Need-add-p
-add-p c = omega (arith, wide (c .before .before .before) .2, c .before .before .before .before .before .before .pre .1)
+add-p c = omega (arith, wide (c .before .before .before) .2, c .before .before .before .before .before .before .pre .2)
 
 short-text-requires : tie.Need-short-text-requires
 short-text-requires c κs =
     let w = wide (c .before .before .before .before) in
     let a = c .before .before .before .before .before .before .before in
-    (a .pre .0, (omega arith), omega (arith, c .before .if1 .left), omega (arith, w .2, a .pre .1), omega (arith, w .2, a .pre .2))
+    let f = fits-ahead {N′ = 2 ^ 30} {M′ = 2 ^ 60} {p = a .args .at + c .before .before .before .before .width .result} 1 3 64 (a .pre) (omega (arith, w .2)) (omega arith) (omega arith) (omega arith) (omega arith) in
+    (f .0, f .1, f .2, f .3, omega arith, omega (arith, c .before .if1 .left))
 
 mul-t13 : tie.Need-mul-t13
 mul-t13 c = omega (arith, c .before .before .before .before .before .if1 .left)
 
 add-t14 : tie.Need-add-t14
-add-t14 c = omega (arith, c .before .before .before .before .before .if1 .left, wide (c .before .before .before .before .before .before .before .before) .2, c .before .before .before .before .before .before .before .before .before .before .before .pre .1)
+add-t14 c = omega (arith, c .before .before .before .before .before .if1 .left, wide (c .before .before .before .before .before .before .before .before) .2, c .before .before .before .before .before .before .before .before .before .before .before .pre .2)
 
 returns-2 : tie.Need-returns-2
 returns-2 c =

@@ -1,5 +1,5 @@
 -- `read_named` meets its contract, with and without coordinates.
-use Prim.Native.Nat.{_<_}
+use Prim.Native.Nat.{_+_, _^_, _<_}
 use borrow.Author.Needs.{needs}
 use native.Mathlib.Omega.{arith}
 use Rattle.per.proofs.Laws.{uint-below}
@@ -7,7 +7,7 @@ use Rattle.atn.specs.Reading.{or}
 use Rattle.records.proofs.Telling.{told-within}
 use Rattle.ample_bits.proofs.AheadLaws.{first-spelt}
 use Rattle.ample_readings.proofs.AmpleLaws.{ample-done, ample-marked}
-use Rattle.ample_places.proofs.RoomLaws.{fits-on}
+use Rattle.ample_places.proofs.RoomLaws.{fits-ahead, fits-on}
 use Rattle.ample_places.proofs.PlaceLaws.{second-below, named-bare, named-placed}
 use Rattle.ample_places.proofs.read_named.Statement.{statement}
 use Rattle.ample_places.proofs.read_named.Tie as tie
@@ -23,7 +23,8 @@ short-text-requires c κs =
     let b = c .before in
     let a = b .before .before .before .before .before .before in
     let r = few b in
-    (omega (arith, a .pre .0), omega (arith, a .pre .4), omega (arith, a .pre .4), omega (arith, a .pre .2, a .pre .7), omega (arith, a .pre .3, a .pre .7))
+    let f = fits-ahead {N′ = 2 ^ 30} {M′ = 2 ^ 60} {p = a .args .at + 1 + a .args .wide} 1 4 64 (a .pre .0, a .pre .1, a .pre .2, a .pre .3) (omega (arith, a .pre .7)) (omega arith) (omega arith) (omega arith) (omega arith) in
+    (f .0, f .1, f .2, f .3, omega (arith, a .pre .4), omega (arith, a .pre .4))
 
 mul-q : tie.Need-mul-q
 mul-q c = let b = c .before .before .before .before in omega (arith, few b, b .before .before .before .before .before .before .pre .4)

@@ -1,16 +1,15 @@
+use Prim.Native.Nat.{_*_}
 use borrow.Author.Needs.{needs}
 use native.Mathlib.Omega.{arith}
-use Rattle.character_strings.specs.Texts.{textRecs}
-use Rattle.ample_places.proofs.PlaceLaws.{told-one}
+use Rattle.ample_places.proofs.PlaceLaws.{first-below, told-one}
 use Rattle.ample_places.proofs.short_text.Statement.{statement}
 use Rattle.ample_places.proofs.short_text.Tie as tie
 
-tell-text-requires : tie.Need-tell-text-requires
-tell-text-requires c κs = let a = c .before .before .before in (omega (arith, a .pre .0), omega (arith, a .pre .2), record { there = omega (arith, a .pre .2, a .pre .4); fits = omega (arith, a .pre .2, a .pre .3) })
+top-sevens-requires : tie.Need-top-sevens-requires
+top-sevens-requires c κs = let a = c .before .before .before .before in (first-below 56 (a .args .len * 7) (c .before .ahead .ensures) (c .first .ensures) (omega (arith, a .pre .5)) (omega (arith, a .pre .5)), a .pre .4, a .pre .5)
 
 returns : tie.Need-returns
-unfolding textRecs
-returns c = let a = c .before .before .before .before .before .before in told-one (a .args .tag) (a .args .from) (a .args .at) (a .args .len) (a .args .s .now) (a .pre .1) (a .pre .2) (c .before .before .tell-text .ensures)
+returns c = let f = c .before .before .before .before .before in let a = f .before .before .before .before in told-one (f .before .ahead .ensures) (a .pre .3) (a .pre .2) (a .pre .4) (a .pre .5) (f .first .ensures) (c .before .before .before .before .top-sevens .ensures) (c .before .before .store .ensures)
 
 pub short-text-spec : {M : Type 1} → statement M
-short-text-spec = tie.close (tie.spec tell-text-requires (λ c. search needs) returns)
+short-text-spec = tie.close (tie.spec (λ c κs. search needs) (λ c. search needs) (λ c κs. search needs) top-sevens-requires (λ c κs. search needs) (λ c. search needs) returns)
