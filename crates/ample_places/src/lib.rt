@@ -68,7 +68,7 @@ fn read_named(
     most: u64,
     wide: usize,
 ) -> Step
-    requires { ⌜ (n < 2 ^ 28) × (space (n + 12) ≤ length (now words)) × (at < 2 ^ 58) × (at + 160 ≤ length (now s) * 8) × (least ≡ 1) × (width (most - 1) ≡ wide) × (1 ≤ wide) × (wide ≤ 3) ⌝ }
+    requires { ⌜ (n < 2 ^ 28) × (space (n + 12) ≤ length (now words)) × (at < 2 ^ 58) × (at + 156 ≤ length (now s) * 8) × (least ≡ 1) × (width (most - 1) ≡ wide) × (1 ≤ wide) × (wide ≤ 3) ⌝ }
     ensures { λ r. ⌜ Ample 12 110 (message.named tag most) (now (s .entry)) at n (now (words .entry)) (now (words .exit)) r ⌝ }
 {
     let v = ahead(s, at);
@@ -96,7 +96,7 @@ fn read_named(
 }
 
 pub fn read_published(s: &[u8], words: &mut [u64], n: usize, at: usize) -> Step
-    requires { ⌜ (n < 2 ^ 27) × (space (n + 13) ≤ length (now words)) × (at < 2 ^ 57) × (at + 168 ≤ length (now s) * 8) ⌝ }
+    requires { ⌜ (n < 2 ^ 27) × (space (n + 13) ≤ length (now words)) × (at < 2 ^ 57) × (at + 157 ≤ length (now s) * 8) ⌝ }
     ensures { λ r. ⌜ Ample 13 111 message.published (now (s .entry)) at n (now (words .entry)) (now (words .exit)) r ⌝ }
 {
     let kind = first(ahead(s, at), KIND);

@@ -1,7 +1,7 @@
 -- A leg that was read and told at once, and one that was given up and read as a value.
 use mathlib.Core.Path.{_≡_, refl}
 use mathlib.Core.List.{List, [], _∷_}
-use Prim.Native.Nat.{ℕ, _+_, _≤_}
+use Prim.Native.Nat.{ℕ, _≤_}
 use native.Mathlib.Omega.{arith}
 use Rattle.x691.specs.Bits.{bitOf}
 use Rattle.atn.specs.Reading.{Rec, rec, Ans, or, read}
@@ -21,12 +21,11 @@ use Rattle.ample_legs.specs.Route.{routeInformation}
 pub part-untold-before : {a b m : ℕ} {k : ℕ → ℕ → Ans} {s : List ℕ} {c : Cursor} {n : ℕ} {w w₁ w₂ : List ℕ} {r : At} {R : List Rec} → Told a w w₁ n m R → Part b k s c n w₁ w₂ r → Part b k s c n w w₂ r
 part-untold-before {b = b} t x = record { recs = x .recs; reads = x .reads; quiet = x .quiet; told = told-within b (omega arith) (told-then (told-dropped t) (x .told)) }
 
--- the record of its place, and the rest of the leg
-pub part-ample : {s : List ℕ} {c : Cursor} {n m : ℕ} {w w₁ w₂ : List ℕ} {r : Step} (i : ℕ) → c .why ≡ 0 → c .at + 245 ≤ c .end → Told 1 w w₁ n m (rec 96 0 i 0 (c .at) ∷ []) → Done 31 245 routeInformation s (c .at) m w₁ w₂ r
+-- the record of its place, and the rest of the leg, which ends in the window
+pub part-ample : {s : List ℕ} {c : Cursor} {n m : ℕ} {w w₁ w₂ : List ℕ} {r : Step} (i : ℕ) → c .why ≡ 0 → r .at ≤ c .end → Told 1 w w₁ n m (rec 96 0 i 0 (c .at) ∷ []) → Done 31 245 routeInformation s (c .at) m w₁ w₂ r
     → Part 158 (λ e p. read message.leg (0, i) (bitOf s) e p) s c n w w₂ (record { n = r .n; c = put c (r .at) 0 (or (c .marks) (r .marks)) })
-part-ample {s} {c} {r = r} i z l t d =
+part-ample {s} {c} {r = r} i z h t d =
     let y = sure-placed 96 (d .sure i) in
-    let h : r .at ≤ c .end = omega (arith, d .near) in
     record {
       recs = _;
       reads = record { led = λ _. went (r .at) (r .marks) z (y .gives (c .end) h) h refl };

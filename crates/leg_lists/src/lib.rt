@@ -15,36 +15,28 @@ use cpdlc_tags::LEG;
 use cursor::place::Cursor;
 use field_ranges::table::LEGS;
 use legs::read_leg;
-use per::room::holds;
 use records::emit;
 use records::space::words_for;
 use records::store;
 use runs::At;
 use tell_legs::tell_leg;
 
-// The bits of the longest leg, and those that a read of eight octets may touch behind it.
-const AMPLE_BITS: usize = 320;
+// The octets that the reading of a leg with one place may touch, from that of its first bit on.
+const AMPLE_OCTETS: usize = 21;
 
 // The records of a leg are at most as many.
 const AMPLE_RECORDS: usize = 32;
 
-// Whether the window has bits for the longest leg, and the words room for its records, with n before them.
+// Whether the slice has octets for a leg, though they may stand behind the window's end, and the words room for its records, with n before them.
 fn is_ample(s: &[u8], room: usize, n: usize, c: Cursor) -> bool
     requires { ⌜ n < 2 ^ 26 ⌝ }
-    ensures { λ r. ⌜ (r ≡ true → (c .why ≡ 0) × (c .at + 320 ≤ c .end) × (c .end ≤ length (now (s .entry)) * 8) × (c .end < 2 ^ 32) × (n < 2 ^ 23) × (space (n + 32) ≤ room)) ⌝ }
+    ensures { λ r. ⌜ (r ≡ true → (c .why ≡ 0) × (c .at + 160 ≤ length (now (s .entry)) * 8) × (c .at < 2 ^ 32) × (n < 2 ^ 23) × (space (n + 32) ≤ room)) ⌝ }
 {
     let at = c.at;
-    let end = c.end;
     if c.why != 0 {
         return false;
     }
-    if end < AMPLE_BITS {
-        return false;
-    }
-    if end - AMPLE_BITS < at {
-        return false;
-    }
-    if 0xffff_ffff < end {
+    if 0xffff_ffff < at {
         return false;
     }
     if 0x7f_ffff < n {
@@ -53,7 +45,7 @@ fn is_ample(s: &[u8], room: usize, n: usize, c: Cursor) -> bool
     if room < words_for(n + AMPLE_RECORDS) {
         return false;
     }
-    holds(s, end)
+    at / 8 + AMPLE_OCTETS <= s.len()
 }
 
 // A leg with its place in the clearance, read as a value and told if the reading goes on.
@@ -89,6 +81,9 @@ fn put_leg(s: &[u8], words: &mut [u64], n: usize, c: Cursor, place: u64) -> At
     let p = r.at;
     let k = r.n;
     if p == 0 {
+        return put_value(s, words, n, c, place);
+    }
+    if end < p {
         return put_value(s, words, n, c, place);
     }
     let d = Cursor {

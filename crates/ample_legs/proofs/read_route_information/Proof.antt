@@ -1,4 +1,5 @@
 -- `read_route_information` meets its contract: each index by the function that reads what stands behind it.
+use Prim.Native.Nat.{_+_, _^_}
 use borrow.Author.Needs.{needs}
 use native.Mathlib.Omega.{arith}
 use Rattle.atn.specs.Reading.{readChoice}
@@ -13,7 +14,7 @@ store-requires : tie.Need-store-requires
 store-requires c κs = let a = c .before .before .before .before .before in room-next _ (room-of 31 (a .args .n) (a .args .words .now) (omega (arith, a .pre .0)) (omega arith) (a .pre .1))
 
 read-published-requires : tie.Need-read-published-requires
-read-published-requires c κs = let b = c .before .before .before .before in fits-on 13 3 168 (b .before .before .before .before .before .before .pre) (b .store .ensures) (omega arith) (omega arith) (omega arith) (omega arith) (omega arith)
+read-published-requires c κs = let b = c .before .before .before .before in fits-on 13 3 157 (b .before .before .before .before .before .before .pre) (b .store .ensures) (omega arith) (omega arith) (omega arith) (omega arith) (omega arith)
 
 returns : tie.Need-returns
 unfolding readChoice
@@ -26,25 +27,32 @@ returns-2 : tie.Need-returns-2
 unfolding readChoice
 returns-2 c = let b = c .before .before .before .before .before .before .before .before in let f = b .before .before in route-indexed (f .before .ahead .ensures) (f .first .ensures) (b .store .ensures) (λ x e p. rw (c .before .before .before .before .if2 .taken)) (omega arith) (omega arith) (c .before .before .read-pair .ensures)
 
-read-between-requires : tie.Need-read-between-requires
-read-between-requires c κs = let b = c .before .before .before .before .before .before in fits-on 30 3 312 (b .before .before .before .before .before .before .pre) (b .store .ensures) (omega arith) (omega arith) (omega arith) (omega arith) (omega arith)
-
 returns-3 : tie.Need-returns-3
+returns-3 c = ample-none (c .before .before .before .before .before .before .before .store .ensures) (c .given-up .ensures)
+
+read-between-requires : tie.Need-read-between-requires
+read-between-requires c κs =
+    let b = c .before .before .before .before .before .before .before in
+    let a = b .before .before .before .before .before .before in
+    let f = fits-on {N′ = 2 ^ 25} {M′ = 2 ^ 55} {p = a .args .at + 3} 30 3 0 (a .pre) (b .store .ensures) (omega arith) (omega arith) (omega arith) (omega arith) (omega arith) in
+    (f .0, f .1, f .2, omega (arith, c .before .if4 .left))
+
+returns-4 : tie.Need-returns-4
 unfolding readChoice
-returns-3 c = let b = c .before .before .before .before .before .before .before .before .before in let f = b .before .before in route-indexed (f .before .ahead .ensures) (f .first .ensures) (b .store .ensures) (λ x e p. rw (c .before .before .before .before .if3 .taken)) (omega arith) (omega arith) (c .before .before .read-between .ensures)
+returns-4 c = let b = c .before .before .before .before .before .before .before .before .before .before in let f = b .before .before in route-indexed (f .before .ahead .ensures) (f .first .ensures) (b .store .ensures) (λ x e p. rw (c .before .before .before .before .before .if3 .taken)) (omega arith) (omega arith) (c .before .before .read-between .ensures)
 
 read-designator-requires : tie.Need-read-designator-requires
 read-designator-requires c κs = let b = c .before .before .before .before .before .before .before in fits-on 1 3 72 (b .before .before .before .before .before .before .pre) (b .store .ensures) (omega arith) (omega arith) (omega arith) (omega arith) (omega arith)
 
-returns-4 : tie.Need-returns-4
-unfolding readChoice
-returns-4 c = let b = c .before .before .before .before .before .before .before .before .before .before in let f = b .before .before in route-indexed (f .before .ahead .ensures) (f .first .ensures) (b .store .ensures) (λ x e p. rw (c .before .before .before .before .if4 .taken)) (omega arith) (omega arith) (c .before .before .read-designator .ensures)
-
 returns-5 : tie.Need-returns-5
-returns-5 c = ample-none (c .before .before .before .before .before .before .before .store .ensures) (c .given-up .ensures)
+unfolding readChoice
+returns-5 c = let b = c .before .before .before .before .before .before .before .before .before .before in let f = b .before .before in route-indexed (f .before .ahead .ensures) (f .first .ensures) (b .store .ensures) (λ x e p. rw (c .before .before .before .before .if5 .taken)) (omega arith) (omega arith) (c .before .before .read-designator .ensures)
+
+returns-6 : tie.Need-returns-6
+returns-6 c = ample-none (c .before .before .before .before .before .before .before .store .ensures) (c .given-up2 .ensures)
 
 pub read-route-information-spec : {M : Type 1} → statement M
 read-route-information-spec =
     tie.close
     (tie.spec
-    (λ c κs. search needs) (λ c κs. search needs) store-requires (λ c. search needs) read-published-requires (λ c. search needs) returns read-pair-requires (λ c. search needs) returns-2 read-between-requires (λ c. search needs) returns-3 read-designator-requires (λ c. search needs) returns-4 (λ c κs. search needs) (λ c. search needs) returns-5)
+    (λ c κs. search needs) (λ c κs. search needs) store-requires (λ c. search needs) read-published-requires (λ c. search needs) returns read-pair-requires (λ c. search needs) returns-2 (λ c. search needs) (λ c κs. search needs) (λ c. search needs) returns-3 read-between-requires (λ c. search needs) returns-4 read-designator-requires (λ c. search needs) returns-5 (λ c κs. search needs) (λ c. search needs) returns-6)

@@ -8,7 +8,7 @@ use Rattle.ample_places.proofs.read_bearing.Statement.{statement}
 use Rattle.ample_places.proofs.read_bearing.Tie as tie
 
 read-published-requires : tie.Need-read-published-requires
-read-published-requires c κs = fits-ahead 13 0 168 (c .before .before .before .pre) (omega arith) (omega arith) (omega arith) (omega arith) (omega arith)
+read-published-requires c κs = fits-ahead 13 0 157 (c .before .before .before .pre) (omega arith) (omega arith) (omega arith) (omega arith) (omega arith)
 
 returns : tie.Need-returns
 returns c = ample-none (ample-untold (c .before .before .before .read-published .ensures)) (c .if1 .taken)

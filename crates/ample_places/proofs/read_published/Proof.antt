@@ -20,7 +20,7 @@ read-named-requires : tie.Need-read-named-requires
 read-named-requires c κs =
     let b = c .before .before .before .before .before in
     let a = b .before .before .before .before .before .before in
-    let f = fits-on {N′ = 2 ^ 28} {M′ = 2 ^ 58} {p = a .args .at + 1} 12 1 160 (a .pre) (b .store .ensures) (omega arith) (omega arith) (omega arith) (omega arith) (omega arith) in
+    let f = fits-on {N′ = 2 ^ 28} {M′ = 2 ^ 58} {p = a .args .at + 1} 12 1 156 (a .pre) (b .store .ensures) (omega arith) (omega arith) (omega arith) (omega arith) (omega arith) in
     let w = size-wide 1 5 (omega arith) (omega arith) (omega arith) (c .before .width .ensures .0) in
     (f .0, f .1, f .2, f .3, omega arith, w .0, w .1, w .2)
 
@@ -32,7 +32,7 @@ read-named-requires-2 : tie.Need-read-named-requires-2
 read-named-requires-2 c κs =
     let b = c .before .before .before .before .before in
     let a = b .before .before .before .before .before .before in
-    let f = fits-on {N′ = 2 ^ 28} {M′ = 2 ^ 58} {p = a .args .at + 1} 12 1 160 (a .pre) (b .store .ensures) (omega arith) (omega arith) (omega arith) (omega arith) (omega arith) in
+    let f = fits-on {N′ = 2 ^ 28} {M′ = 2 ^ 58} {p = a .args .at + 1} 12 1 156 (a .pre) (b .store .ensures) (omega arith) (omega arith) (omega arith) (omega arith) (omega arith) in
     let w = size-wide 1 4 (omega arith) (omega arith) (omega arith) (c .before .width2 .ensures .0) in
     (f .0, f .1, f .2, f .3, omega arith, w .0, w .1, w .2)
 
