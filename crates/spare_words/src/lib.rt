@@ -11,13 +11,15 @@ pub const CPDLC_SPARE: usize = 240;
 
 pub const CM_SPARE: usize = 120;
 
-// All of `from` at the front of `to`: two records at a time, then one, then the words that make none.
+// All of `from` at the front of `to`: two records and two more at a time, then one, then the words that make none.
 pub fn copy(from: &[u64], to: &mut [u64])
     requires { ⌜ length (now from) ≤ length (now to) ⌝ }
     ensures { λ _. ⌜ now (to .exit) ≡ now (from .entry) ++ drop (length (now (from .entry))) (now (to .entry)) ⌝ }
 {
     let mut i = 0;
-    while from.len() - i >= 10 {
+    while from.len() - i >= 20 {
+        front::copy_two(&from[i..], &mut to[i..]);
+        i += 10;
         front::copy_two(&from[i..], &mut to[i..]);
         i += 10;
     }

@@ -34,8 +34,17 @@ copy-two-requires c κs =
     let l = c .before .before .before .loop in
     simp tail-length (omega (arith, c .before .before .loop-test .taken), omega (arith, c .before .before .loop-test .taken, l .inv .1 .fits, l .inv .1 .long))
 
+copy-two-requires-2 : tie.Need-copy-two-requires-2 Inv-loop μ-loop Inv-loop2 μ-loop2 Inv-loop3 μ-loop3
+copy-two-requires-2 c κs =
+    let q = c .before .before .before .before .before .before .before .loop-test .taken in
+    let h = copied-more 10 (c .before .before .before .before .before .before .before .before .loop .inv .1) (omega (arith, q)) (c .before .before .before .before .copy-two .ensures) in
+    simp tail-length (omega (arith, q), omega (arith, q, h .fits, h .long))
+
 loop-again : tie.Need-loop-again Inv-loop μ-loop Inv-loop2 μ-loop2 Inv-loop3 μ-loop3
-loop-again c = (omega arith, copied-more 10 (c .before .before .before .before .before .before .loop .inv .1) (c .before .before .before .before .before .loop-test .taken) (c .before .before .copy-two .ensures))
+loop-again c =
+    let q = c .before .before .before .before .before .before .before .before .before .before .loop-test .taken in
+    let l = c .before .before .before .before .before .before .before .before .before .before .before .loop in
+    (omega (arith, l .inv .0), copied-more 10 (copied-more 10 (l .inv .1) (omega (arith, q)) (c .before .before .before .before .before .before .before .copy-two .ensures)) (omega (arith, q)) (c .before .before .copy-two2 .ensures))
 
 loop2-holds : tie.Need-loop2-holds Inv-loop μ-loop Inv-loop2 μ-loop2 Inv-loop3 μ-loop3
 loop2-holds c = (le-refl _, copied-on (c .before .loop .inv .1))
@@ -69,4 +78,4 @@ returns : tie.Need-returns Inv-loop μ-loop Inv-loop2 μ-loop2 Inv-loop3 μ-loop
 returns c = copied-all (all c) (c .loop3-test .left)
 
 pub copy-spec : {M : Type 1} → statement M
-copy-spec = tie.close (tie.spec Inv-loop μ-loop Inv-loop2 μ-loop2 Inv-loop3 μ-loop3 loop-holds (λ c. search needs) (λ c. search needs) (λ c. search needs) (λ c. search needs) (λ c. search needs) (λ c. search needs) (λ c. search needs) (λ c. search needs) (λ c. search needs) copy-two-requires (λ c. search needs) (λ c. search needs) loop-again loop2-holds (λ c. search needs) (λ c. search needs) (λ c. search needs) (λ c. search needs) (λ c. search needs) (λ c. search needs) (λ c. search needs) (λ c. search needs) (λ c. search needs) copy-one-requires (λ c. search needs) (λ c. search needs) loop2-again loop3-holds (λ c. search needs) (λ c. search needs) (λ c. search needs) (λ c. search needs) (λ c. search needs) (λ c. search needs) loop3-again same-length returns)
+copy-spec = tie.close (tie.spec Inv-loop μ-loop Inv-loop2 μ-loop2 Inv-loop3 μ-loop3 loop-holds (λ c. search needs) (λ c. search needs) (λ c. search needs) (λ c. search needs) (λ c. search needs) (λ c. search needs) (λ c. search needs) (λ c. search needs) (λ c. search needs) copy-two-requires (λ c. search needs) (λ c. search needs) (λ c. search needs) (λ c. search needs) (λ c. search needs) (λ c. search needs) (λ c. search needs) (λ c. search needs) (λ c. search needs) copy-two-requires-2 (λ c. search needs) (λ c. search needs) loop-again loop2-holds (λ c. search needs) (λ c. search needs) (λ c. search needs) (λ c. search needs) (λ c. search needs) (λ c. search needs) (λ c. search needs) (λ c. search needs) (λ c. search needs) copy-one-requires (λ c. search needs) (λ c. search needs) loop2-again loop3-holds (λ c. search needs) (λ c. search needs) (λ c. search needs) (λ c. search needs) (λ c. search needs) (λ c. search needs) loop3-again same-length returns)
