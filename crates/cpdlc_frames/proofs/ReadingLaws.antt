@@ -6,13 +6,13 @@ use Prim.Native.Nat.{ℕ, zero, suc, _*_, _≤_}
 use native.Mathlib.Omega.{arith}
 use lib.ListN.{length}
 use Rattle.x691.specs.Bits.{bitOf}
-use Rattle.atn.specs.Format.{Why, out, bad, lack, quit}
-use Rattle.atn.specs.Reading.{Rec, Ans, ok, past, stop, or, read}
-use Rattle.atn.specs.Entries.{Reply, accept, ranOut, badly, unsupplied, stopped, reply, readFrame, pdus}
+use Rattle.atn.specs.Format.{out, bad, lack, quit}
+use Rattle.atn.specs.Reading.{Rec, stop, or, read}
+use Rattle.atn.specs.Entries.{Reply, accept, stopped, reply, readFrame, pdus}
 use Rattle.atn.proofs.Tame.{keepsStop, tame, tameFields, tameChoice}
 use Rattle.atn.proofs.Calm.{isQuit, givesUp, calm, calm-read}
 use Rattle.cursor.specs.declared.place.Cursor.{Cursor}
-use Rattle.cursor.specs.Place.{number, Inside}
+use Rattle.cursor.specs.Place.{Inside}
 use Rattle.records.proofs.Passes.{counted}
 use Rattle.spare_words.proofs.KeptLaws.{told-kept}
 use Rattle.runs.specs.declared.At.{At}

@@ -1,12 +1,11 @@
 -- The integrity check from its length and the bits passed over.
-use mathlib.Core.Path.{_≡_, refl, sym, ap, _∙_}
-use mathlib.Core.Bool.{true, false}
+use mathlib.Core.Path.{_≡_, refl, ap}
 use mathlib.Core.List.{List, [], _∷_}
-use Prim.Native.Nat.{ℕ, zero, suc, _+_, _*_, _%_, _≤_}
+use Prim.Native.Nat.{ℕ, zero, suc, _+_, _*_, _%_}
 use native.Mathlib.Omega.{arith}
 use Rattle.x691.specs.Bits.{bitOf}
 use Rattle.atn.specs.Format.{anySpan}
-use Rattle.atn.specs.Reading.{Rec, rec, Ans, or, mark, spanned, read}
+use Rattle.atn.specs.Reading.{rec, Ans, or, mark, spanned, read}
 use Rattle.cursor.specs.declared.place.Cursor.{Cursor}
 use Rattle.length_determinants.specs.declared.Measured.{Measured}
 use Rattle.cursor.specs.declared.place.Got.{Got}
@@ -15,7 +14,6 @@ use Rattle.length_determinants.specs.Lengths.{Measures, Passes}
 use Rattle.length_determinants.proofs.LengthLaws.{measures-short, takes-any-span}
 use Rattle.records.specs.Told.{Told}
 use Rattle.records.proofs.Telling.{told-none, told-within}
-use Rattle.runs.specs.declared.At.{At}
 use Rattle.integrity.specs.Parts.{integrity}
 use Rattle.runs.specs.Runs.{Runs}
 use Rattle.runs.proofs.FrameLaws.{soft-went, soft-out, soft-bad}

@@ -11,10 +11,8 @@ use Rattle.x691.specs.Bits.{bitOf, uint}
 use Rattle.per.proofs.Laws.{uint-below, uint-split}
 use Rattle.atn.specs.Reading.{unless}
 use Rattle.cursor.specs.declared.place.Cursor.{Cursor}
-use Rattle.cursor.specs.declared.place.Got.{Got}
-use Rattle.cursor.specs.Place.{Inside, got, Pulls, opened, Opens}
+use Rattle.cursor.specs.Place.{got, Pulls, opened, Opens}
 use Rattle.cursor.proofs.Laws.{marked-nil}
-use Rattle.length_determinants.specs.declared.Measured.{Measured}
 use Rattle.length_determinants.specs.Lengths.{Ends, Measures}
 use Rattle.length_determinants.proofs.LengthLaws.{known-some, head-long, sums-last, measures-in, measures-short}
 use Rattle.pdus.specs.Pdus.{indexBits}

@@ -1,6 +1,5 @@
 -- The message of a send, from its string and the integrity check behind it.
-use mathlib.Core.Path.{_≡_, refl, sym, ap, _∙_}
-use mathlib.Core.Bool.{true}
+use mathlib.Core.Path.{_≡_, refl, ap}
 use mathlib.Core.Logic.{inl, inr}
 use mathlib.Core.List.{List, [], _∷_}
 use Prim.Native.Nat.{ℕ, zero, suc, _+_, _-_, _*_, _/_, _%_, _≤_, _<_}
@@ -9,7 +8,6 @@ use lib.ListN.{length}
 use borrow.Author.Tests.{le-leb}
 use Rattle.atn.specs.Reading.{rec}
 use Rattle.cursor.specs.declared.place.Cursor.{Cursor}
-use Rattle.length_determinants.specs.Lengths.{Passes}
 use Rattle.length_determinants.proofs.LengthLaws.{passes-over, passes-short}
 use Rattle.inner_strings.specs.Strings.{Lacks, Has}
 use Rattle.inner_strings.proofs.StringLaws.{string-stops, string-held}
@@ -32,7 +30,7 @@ use Rattle.pdus.specs.Pdus.{indexBits, pduAt}
 use Rattle.pdus.proofs.PduLaws.{pdu-read}
 use Rattle.sends.specs.declared.Send.{Send}
 use Rattle.sends.specs.Sends.{Protected, Shortest, one-octet, two-octets, Sends, tableOf}
-use Rattle.sends.proofs.HeadLaws.{place, pulled, opens, Parts, parts, measured}
+use Rattle.sends.proofs.HeadLaws.{place, pulled, opens, parts, measured}
 
 ---------------------------------------------------------------- the table of the direction
 

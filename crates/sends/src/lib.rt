@@ -5,7 +5,7 @@ ghost use mathlib.Core.List.{List};
 ghost use Prim.Native.Nat.{ℕ, _+_, _*_, _≤_, _<_};
 ghost use lib.ListN.{length};
 ghost use Rattle.x691.specs.Bits.{bitOf, uint};
-ghost use Rattle.pdus.specs.Pdus.{indexBits, pduAt};
+ghost use Rattle.pdus.specs.Pdus.{pduAt};
 ghost use Rattle.runs.specs.Runs.{Runs};
 ghost use Rattle.sends.specs.Sends.{Protected, Shortest, Sends, tableOf};
 use cpdlc_tags::DIRECTION;

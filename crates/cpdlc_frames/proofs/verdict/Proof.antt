@@ -1,4 +1,3 @@
-use mathlib.Core.Path.{refl}
 use Rattle.cpdlc_frames.proofs.ReadingLaws.{tried-whole, tried-cut, tried-refused}
 use Rattle.cpdlc_frames.proofs.verdict.Statement.{statement}
 use Rattle.cpdlc_frames.proofs.verdict.Tie as tie

@@ -1,6 +1,5 @@
 use mathlib.Core.Bool.{false}
 use native.Mathlib.Omega.{arith}
-use borrow.Author.Needs.{needs}
 use Rattle.atn.specs.Reading.{or, mark}
 use Rattle.runs.proofs.RunLaws.{runs-stayed, runs-within}
 use Rattle.runs.proofs.AttemptLaws.{tried-dropped, tried-kept}

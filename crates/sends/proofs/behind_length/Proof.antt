@@ -1,5 +1,4 @@
 use mathlib.Core.Path.{refl}
-use native.Mathlib.Omega.{arith}
 use borrow.Author.Needs.{needs}
 use Rattle.sends.proofs.HeadLaws.{short-length, long-length}
 use Rattle.sends.proofs.behind_length.Statement.{statement}
