@@ -6,9 +6,9 @@ ghost use Rattle.acse_apdus.specs.Apdus.{heardOf, Hears};
 use acse_bodies::Body;
 use acse_bodies::read_body;
 use acse_bodies::unread;
+use acse_reasons::few::few;
 use acse_reasons::notes::Note;
 use cursor::place::Cursor;
-use cursor::place::bits;
 use per::units::Octets;
 
 // Accepted: whether cut, the reach and the marks; the record of the message, by its value, second number and place, and two at most behind it.
@@ -60,7 +60,7 @@ pub fn read_apdu(s: &[u8]) -> Apdu
         why: 0,
         marks: 0,
     };
-    let extension = bits(s, start, 1);
+    let extension = few(s, start, 1);
     let c = extension.c;
     if c.why != 0 {
         return Apdu::RanOut(c.at, (c.why / 16) as usize);
@@ -68,7 +68,7 @@ pub fn read_apdu(s: &[u8]) -> Apdu
     if extension.v != 0 {
         return heard(0, 1, c.at, unread(c, 2));
     }
-    let index = bits(s, c, 3);
+    let index = few(s, c, 3);
     let pdu = index.v;
     let d = index.c;
     if d.why != 0 {

@@ -3,6 +3,7 @@ ghost use mathlib.Core.Path.{_≡_};
 ghost use Prim.Native.Nat.{_<_};
 ghost use Rattle.acse_bodies.specs.Bodies.{releaseBody, abortBody, unreadBody, aloneBody, bodyRecs, Chosen};
 ghost use Rattle.acse_reasons.specs.SoFar.{Keeps};
+use acse_reasons::few::few;
 use acse_reasons::notes::Note;
 use acse_reasons::notes::NoteAt;
 use acse_reasons::notes::note_at;
@@ -11,7 +12,6 @@ use acse_reasons::reasons::reason;
 use acse_reasons::reasons::release_reason;
 use acse_reasons::tags;
 use cursor::place::Cursor;
-use cursor::place::bits;
 use cursor::place::mark;
 use field_ranges::table::ABORT_DIAGNOSTIC;
 use field_ranges::table::SIDE;
@@ -53,11 +53,11 @@ fn alone(n: NoteAt) -> Body
 fn read_release(s: &[u8], c: Cursor, tag: u64) -> Body
     ensures { λ r. ⌜ Keeps (releaseBody tag) (now (s .entry)) c (r .c) (bodyRecs r) ⌝ }
 {
-    let extension = bits(s, c, 1);
+    let extension = few(s, c, 1);
     if extension.v != 0 {
         return unread(extension.c, 2);
     }
-    let presence = bits(s, extension.c, 1);
+    let presence = few(s, extension.c, 1);
     if presence.v == 0 {
         let absent = note_at(presence.c, tag, 0, 2, presence.c.at);
         return alone(absent);
@@ -70,16 +70,16 @@ fn read_release(s: &[u8], c: Cursor, tag: u64) -> Body
 fn read_abort(s: &[u8], c: Cursor) -> Body
     ensures { λ r. ⌜ Keeps abortBody (now (s .entry)) c (r .c) (bodyRecs r) ⌝ }
 {
-    let extension = bits(s, c, 1);
+    let extension = few(s, c, 1);
     if extension.v != 0 {
         return unread(extension.c, 2);
     }
-    let presence = bits(s, extension.c, 1);
-    let source = reason(s, presence.c, SIDE, tags::ABORT_SOURCE);
+    let presence = few(s, extension.c, 1);
+    let source = reason(s, presence.c, SIDE.hi, tags::ABORT_SOURCE);
     if presence.v == 0 {
         return alone(source);
     }
-    let diagnostic = reason(s, source.c, ABORT_DIAGNOSTIC, tags::ABORT_DIAGNOSTIC);
+    let diagnostic = reason(s, source.c, ABORT_DIAGNOSTIC.hi, tags::ABORT_DIAGNOSTIC);
     let first = source.note;
     let next = diagnostic.note;
     let d = diagnostic.c;

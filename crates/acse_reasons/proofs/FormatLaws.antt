@@ -1,21 +1,22 @@
 -- Grows of formats, outside elements: what stands behind an extension bit, and numbers.
 use mathlib.Core.Path.{_≡_, refl, sym}
-use mathlib.Core.Bool.{Bool, true, false, cond, _&&_}
+use mathlib.Core.Bool.{cond, _&&_}
 use mathlib.Core.List.{List, [], _∷_}
-use Prim.Native.Nat.{ℕ, zero, suc, _+_, _-_}
+use Prim.Native.Nat.{ℕ, zero, suc, _+_, _^_, _<_}
+use native.Mathlib.Omega.{arith}
 use lib.Dec.{leb, eqb}
-use Rattle.x691.specs.Bits.{bitOf, uint}
+use Rattle.x691.specs.Bits.{bitOf}
 use Rattle.x691.specs.Range.{member}
 use Rattle.x691.specs.Encoding.{width}
 use Rattle.x691.specs.Types.{extent}
-use Rattle.atn.specs.Format.{Fmt, out, num, listed, null, ext}
-use Rattle.atn.specs.Reading.{Rec, rec, Ans, ok, stop, glue, then, fork, or, mark, unless, fetch, pull, read}
+use Rattle.atn.specs.Format.{Fmt, num, listed, null, ext}
+use Rattle.atn.specs.Reading.{Rec, rec, Ans, ok, glue, then, fork, or, mark, word, over, unless, read}
 use Rattle.atn.specs.Messages.{extended}
 use Rattle.cursor.specs.declared.place.Cursor.{Cursor}
 use Rattle.cursor.specs.declared.place.Got.{Got}
-use Rattle.cursor.specs.Place.{marked, Pulls, Takes}
+use Rattle.cursor.specs.Place.{marked, Pulls}
 use Rattle.acse_reasons.specs.SoFar.{Grows, Keeps}
-use Rattle.acse_reasons.proofs.GrowLaws.{grows-same, grows-ok, grows-here, grows-mark, grows-pull, grows-from, grows-quiet, Quiet}
+use Rattle.acse_reasons.proofs.GrowLaws.{grows-same, grows-ok, grows-here, grows-mark, grows-pull, grows-from}
 
 abbrev pub Read : Fmt → List ℕ → ℕ → ℕ → Ans
 Read f s u p = read f (0, 0) (bitOf s) u p
@@ -53,17 +54,20 @@ module _ {f : Fmt} {s : List ℕ} {c d : Cursor} {g : Got} (p : Pulls s c 1 g) (
 
 ---------------------------------------------------------------- numbers
 
-pull-quiet : (b : ℕ → ℕ) (e at n : ℕ) (k : ℕ → Ans) → ((v : ℕ) → Quiet (k v)) → Quiet (pull b e at n k)
-unfolding pull fetch
-pull-quiet b e at n k h = go (leb (at + n) e)
-  where
-    go : (t : Bool) → Quiet (cond t (k (uint b at n)) (stop (out (at + n - e)) at [] 0))
-    go true = h (uint b at n)
-    go false = refl
+from-zero : (hi : ℕ) → hi < 2 ^ 64 → extent 0 hi ≡ hi
+unfolding extent
+from-zero hi h = omega arith
 
-pub keeps-number : (t lo hi : ℕ) {s : List ℕ} {c d : Cursor} {T : ℕ → List Rec} → Takes (num t lo hi) s c d T → Keeps (num t lo hi) s c d (cond (eqb (d .why) 0) (T 0) [])
-unfolding read
-keeps-number t lo hi {s} {c} h = record { grows = grows-quiet (Read (num t lo hi) s) (pull-quiet (bitOf s) (c .end) (c .at) (width (extent lo hi)) _ (λ v. tt)) (h .took (0, 0)) }
+pub keeps-number : (t hi : ℕ) {s : List ℕ} {c d : Cursor} {g : Got} → hi < 2 ^ 64 → g .v < 2 ^ 64 → Pulls s c (width hi) g → d ≡ marked (g .c) (over hi (g .v))
+    → Keeps (num t 0 hi) s c d (cond (eqb (d .why) 0) (rec t 0 (g .v) 0 (c .at) ∷ []) [])
+unfolding read word
+keeps-number t hi {s} {c} {d} {g} h l p q =
+    let e : extent 0 hi ≡ hi = from-zero hi h in
+    let w : word (0 + g .v) ≡ g .v = omega arith in
+    let p′ : Pulls s c (width (extent 0 hi)) g = rw e p in
+    let q′ : d ≡ marked (g .c) (over (extent 0 hi) (g .v)) = rw e q in
+    let r : Keeps (num t 0 hi) s c d (cond (eqb (d .why) 0) (rec t 0 (word (0 + g .v)) 0 (c .at) ∷ []) []) = record { grows = grows-from (width (extent 0 hi)) g (λ a v u r. ok r (rec t 0 (word (0 + v)) 0 a ∷ []) (over (extent 0 hi) v)) p′ (grows-ok _ _ q′) } in
+    rw w at r
 
 pub keeps-listed : (t hi : ℕ) (xs : List ℕ) {s : List ℕ} {c d : Cursor} {g : Got} → Pulls s c (width hi) g → d ≡ marked (g .c) (unless (leb (g .v) hi && member (g .v) xs) 1)
     → Keeps (listed t hi xs) s c d (cond (eqb (d .why) 0) (rec t 0 (g .v) 0 (c .at) ∷ []) [])

@@ -7,14 +7,14 @@ use native.Mathlib.Omega.{arith}
 use lib.Dec.{eqb}
 use borrow.Author.Tests.{eq-eqb, ne-eqb}
 use Rattle.x691.specs.Bits.{bitOf}
-use Rattle.atn.specs.Format.{out, bad, lack, quit}
-use Rattle.atn.specs.Reading.{Rec, Ans, ok, past, stop, glue, then, or, pull}
+use Rattle.atn.specs.Format.{out}
+use Rattle.atn.specs.Reading.{Rec, Ans, ok, stop, glue, then, or, pull}
 use Rattle.atn.proofs.Marks.{or-nil}
 use Rattle.atn.proofs.Steps.{pull-go, pull-no}
 use Rattle.atn.proofs.Then.{glue-then}
 use Rattle.cursor.specs.declared.place.Cursor.{Cursor}
 use Rattle.cursor.specs.declared.place.Got.{Got}
-use Rattle.cursor.specs.Place.{number, put, stopped, marked, Inside, Pulled, stuck, short, got, Pulls, Led, stayed, went, failed, Reads}
+use Rattle.cursor.specs.Place.{number, put, stopped, marked, Inside, Pulled, stuck, short, got, Pulls}
 use Rattle.cursor.proofs.Laws.{Behind}
 use Rattle.acse_reasons.specs.SoFar.{soFar, Grew, Grows}
 
@@ -92,31 +92,6 @@ grows-mark {s} {c} {d} m q = go (eqb (d .why) 0) (grows-ok [] m q)
     go : (b : Bool) → Grows (λ u p. ok p [] m) s c d (cond b [] []) → Grows (λ u p. ok p [] m) s c d []
     go true r = r
     go false r = r
-
--- nothing is told where the answer is that it ran out, and there is no other failure
-abbrev pub Quiet : Ans → Type 0
-Quiet (ok p R m) = Unit {0}
-Quiet (past lacked p R m) = Unit {0}
-Quiet (stop (out lacked) p R m) = R ≡ []
-Quiet (stop bad p R m) = ⊥
-Quiet (stop lack p R m) = ⊥
-Quiet (stop (quit o j l) p R m) = ⊥
-
-pub grows-quiet : {s : List ℕ} {c d : Cursor} {R : List Rec} (k : ℕ → ℕ → Ans) → Quiet (k (c .end) (c .at)) → Reads k s c d R → Grows k s c d (cond (eqb (d .why) 0) R [])
-unfolding soFar then glue
-grows-quiet {s} {c} {d} {R} k h r = record { grew = λ i. go i (r .led i) }
-  where
-    go : Inside s c → Led k c d R → Grew k s c d (cond (eqb (d .why) 0) R [])
-    go i (stayed n q) = rw (q, ne-eqb (c .why) 0 n) record { inside = i; window = refl; gives = λ Q. rw (ne-eqb (c .why) 0 n, append-nil Q) }
-    go i (went p m z a l q) = rw q record { inside = (l, i .1); window = refl; gives = λ Q. rw (eq-eqb (c .why) 0 z, a) }
-    go i (failed (out lacked) p m S n z a l q) =
-        let y : S ≡ [] = rw a at h in
-        let u : eqb (number (out lacked)) 0 ≡ false = ne-eqb (number (out lacked)) 0 n in
-        let v : number (out lacked) / 16 ≡ lacked = omega arith in
-        rw q record { inside = (l, i .1); window = refl; gives = λ Q. rw (eq-eqb (c .why) 0 z, a, y, u, v) }
-    go i (failed bad p m S n z a l q) = absurd (rw a at h)
-    go i (failed lack p m S n z a l q) = absurd (rw a at h)
-    go i (failed (quit o j v) p m S n z a l q) = absurd (n refl)
 
 ---------------------------------------------------------------- behind a number
 

@@ -5,21 +5,18 @@ ghost use mathlib.Core.List.{[], _∷_};
 ghost use Prim.Native.Nat.{_<_};
 ghost use lib.Dec.{leb};
 ghost use Rattle.x691.specs.Range.{member};
-ghost use Rattle.atn.specs.Reading.{unless};
+ghost use Rattle.atn.specs.Reading.{unless, over};
 ghost use Rattle.atn.specs.Messages.{extReason};
-ghost use Rattle.field_ranges.specs.Ranges.{Listed};
-ghost use Rattle.field_ranges.specs.Ends.{highest};
 ghost use Rattle.cursor.specs.Place.{marked};
 ghost use Rattle.acse_reasons.specs.Notes.{noteAt, noteRecs, listedReason};
 ghost use Rattle.acse_reasons.specs.SoFar.{Keeps};
+use super::few::few;
 use super::notes::NoteAt;
 use super::notes::note_at;
 use cursor::place::Cursor;
-use cursor::place::bits;
 use cursor::place::mark;
 use field_ranges::table::RELEASE_REASON;
-use field_ranges::table::Range;
-use ranged_numbers::ranged;
+use per::width::bits_for;
 
 fn extended(c: Cursor, tag: u64) -> NoteAt
     ensures { λ r. ⌜ r ≡ noteAt (marked c 2) tag 0 1 (c .at) ⌝ }
@@ -28,17 +25,28 @@ fn extended(c: Cursor, tag: u64) -> NoteAt
     note_at(d, tag, 0, 1, c.at)
 }
 
-// A number of the range, which begins at 0.
-pub fn reason(s: &[u8], c: Cursor, range: Range, tag: u64) -> NoteAt
-    requires { ⌜ Listed range × (range .lo ≡ 0) ⌝ }
-    ensures { λ r. ⌜ Keeps (extReason tag (highest (range .row))) (now (s .entry)) c (r .c) (noteRecs (r .note)) ⌝ }
+// The mark of a number above the highest.
+fn above(v: u64, highest: u64) -> u64
+    ensures { λ r. ⌜ r ≡ over highest v ⌝ }
 {
-    let extension = bits(s, c, 1);
+    if v <= highest {
+        return 0;
+    }
+    1
+}
+
+// A number from 0 on. The highest is handed over and no range: so this is compiled into who calls it.
+pub fn reason(s: &[u8], c: Cursor, highest: u64, tag: u64) -> NoteAt
+    requires { ⌜ highest < 256 ⌝ }
+    ensures { λ r. ⌜ Keeps (extReason tag highest) (now (s .entry)) c (r .c) (noteRecs (r .note)) ⌝ }
+{
+    let extension = few(s, c, 1);
     if extension.v != 0 {
         return extended(extension.c, tag);
     }
-    let number = ranged(s, extension.c, range);
-    note_at(number.c, tag, number.v, 0, extension.c.at)
+    let number = few(s, extension.c, bits_for(highest));
+    let d = mark(number.c, above(number.v, highest));
+    note_at(d, tag, number.v, 0, extension.c.at)
 }
 
 // The mark of a release reason: 0, 1 and 30 are listed.
@@ -58,11 +66,11 @@ fn unlisted(v: u64) -> u64
 pub fn release_reason(s: &[u8], c: Cursor, tag: u64) -> NoteAt
     ensures { λ r. ⌜ Keeps (listedReason tag) (now (s .entry)) c (r .c) (noteRecs (r .note)) ⌝ }
 {
-    let extension = bits(s, c, 1);
+    let extension = few(s, c, 1);
     if extension.v != 0 {
         return extended(extension.c, tag);
     }
-    let index = bits(s, extension.c, RELEASE_REASON.width());
+    let index = few(s, extension.c, RELEASE_REASON.width());
     let d = mark(index.c, unlisted(index.v));
     note_at(d, tag, index.v, 0, extension.c.at)
 }

@@ -1,5 +1,4 @@
 use mathlib.Core.Path.{refl}
-use Rattle.field_ranges.specs.Ends.{highest}
 use Rattle.acse_reasons.proofs.FormatLaws.{keeps-root, keeps-unread}
 use Rattle.acse_bodies.proofs.SequenceLaws.{keeps-first, keeps-both}
 use Rattle.acse_bodies.proofs.BodyLaws.{keeps-alone}
@@ -8,15 +7,13 @@ use Rattle.acse_bodies.proofs.read_abort.Statement.{statement}
 use Rattle.acse_bodies.proofs.read_abort.Tie as tie
 
 returns : tie.Need-returns
-returns c = rw (c .unread .ensures) (keeps-unread (c .before .before .before .bits .ensures) (c .before .if1 .taken) refl)
+returns c = rw (c .unread .ensures) (keeps-unread (c .before .before .before .few .ensures) (c .before .if1 .taken) refl)
 
 returns-2 : tie.Need-returns-2
-unfolding highest
-returns-2 c = keeps-alone (c .before .before .before .reason .result) (c .alone .ensures) (keeps-root (c .before .before .before .before .before .before .before .bits .ensures) (c .before .before .before .before .before .if1 .left) (keeps-first (c .before .before .before .before .bits2 .ensures) (c .before .if2 .taken) (c .before .before .before .reason .ensures)))
+returns-2 c = keeps-alone (c .before .before .before .reason .result) (c .alone .ensures) (keeps-root (c .before .before .before .before .before .before .before .few .ensures) (c .before .before .before .before .before .if1 .left) (keeps-first (c .before .before .before .before .few2 .ensures) (c .before .if2 .taken) (c .before .before .before .reason .ensures)))
 
 returns-3 : tie.Need-returns-3
-unfolding highest
-returns-3 c = keeps-root (c .before .before .before .before .before .before .before .before .before .before .bits .ensures) (c .before .before .before .before .before .before .before .before .if1 .left) (keeps-both (c .before .before .before .before .before .before .before .bits2 .ensures) (c .before .before .before .before .if2 .left) (c .before .before .before .before .before .before .reason .ensures) (c .before .before .before .reason2 .ensures))
+returns-3 c = keeps-root (c .before .before .before .before .before .before .before .before .before .before .few .ensures) (c .before .before .before .before .before .before .before .before .if1 .left) (keeps-both (c .before .before .before .before .before .before .before .few2 .ensures) (c .before .before .before .before .if2 .left) (c .before .before .before .before .before .before .reason .ensures) (c .before .before .before .reason2 .ensures))
 
 pub read-abort-spec : {M : Type 1} → statement M
 read-abort-spec =

@@ -7,14 +7,14 @@ use Rattle.acse_bodies.proofs.read_release.Statement.{statement}
 use Rattle.acse_bodies.proofs.read_release.Tie as tie
 
 returns : tie.Need-returns
-returns c = rw (c .unread .ensures) (keeps-unread (c .before .before .before .bits .ensures) (c .before .if1 .taken) refl)
+returns c = rw (c .unread .ensures) (keeps-unread (c .before .before .before .few .ensures) (c .before .if1 .taken) refl)
 
 returns-2 : tie.Need-returns-2
 returns-2 c =
-    keeps-alone (c .before .note-at .result) (c .alone .ensures) (rw (c .before .note-at .ensures) (keeps-root (c .before .before .before .before .before .before .before .bits .ensures) (c .before .before .before .before .before .if1 .left) (keeps-absent _ 0 2 (c .before .before .before .before .bits2 .ensures) (c .before .before .if2 .taken))))
+    keeps-alone (c .before .note-at .result) (c .alone .ensures) (rw (c .before .note-at .ensures) (keeps-root (c .before .before .before .before .before .before .before .few .ensures) (c .before .before .before .before .before .if1 .left) (keeps-absent _ 0 2 (c .before .before .before .before .few2 .ensures) (c .before .before .if2 .taken))))
 
 returns-3 : tie.Need-returns-3
-returns-3 c = keeps-alone (c .before .release-reason .result) (c .alone2 .ensures) (keeps-root (c .before .before .before .before .before .before .before .bits .ensures) (c .before .before .before .before .before .if1 .left) (keeps-given _ 0 2 (c .before .before .before .before .bits2 .ensures) (c .before .before .if2 .left) (c .before .release-reason .ensures)))
+returns-3 c = keeps-alone (c .before .release-reason .result) (c .alone2 .ensures) (keeps-root (c .before .before .before .before .before .before .before .few .ensures) (c .before .before .before .before .before .if1 .left) (keeps-given _ 0 2 (c .before .before .before .before .few2 .ensures) (c .before .before .if2 .left) (c .before .release-reason .ensures)))
 
 pub read-release-spec : {M : Type 1} → statement M
 read-release-spec =
