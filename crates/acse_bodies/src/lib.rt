@@ -1,6 +1,9 @@
 // Release and abort. Where the frame ends in them, what was read before stays.
 ghost use mathlib.Core.Path.{_≡_};
+ghost use mathlib.Core.Bool.{cond};
 ghost use Prim.Native.Nat.{_<_};
+ghost use lib.Dec.{eqb};
+ghost use Rattle.atn.specs.Tags.{release-request-reason, release-response-reason};
 ghost use Rattle.acse_bodies.specs.Bodies.{releaseBody, abortBody, unreadBody, aloneBody, bodyRecs, Chosen};
 ghost use Rattle.acse_reasons.specs.SoFar.{Keeps};
 use acse_reasons::few::few;
@@ -90,19 +93,26 @@ fn read_abort(s: &[u8], c: Cursor) -> Body
     }
 }
 
-// The body of each of the five messages. Those of an association request and its response, 0 and 1, are not read: mark 3.
+// The tag of the reason of a release: a request's, which is 2, or a response's.
+fn release_tag(pdu: u64) -> u64
+    ensures { λ r. ⌜ r ≡ cond (eqb pdu 2) release-request-reason release-response-reason ⌝ }
+{
+    if pdu == 2 {
+        return tags::RELEASE_REQUEST_REASON;
+    }
+    tags::RELEASE_RESPONSE_REASON
+}
+
+// The body of each of the five messages. Those of an association request and its response, 0 and 1, are not read: mark 3. A release is read in one place: what is called once is compiled into it.
 pub fn read_body(s: &[u8], c: Cursor, pdu: u64) -> Body
     requires { ⌜ pdu < 5 ⌝ }
     ensures { λ r. ⌜ Chosen (now (s .entry)) c pdu r ⌝ }
 {
-    if pdu == 2 {
-        return read_release(s, c, tags::RELEASE_REQUEST_REASON);
-    }
-    if pdu == 3 {
-        return read_release(s, c, tags::RELEASE_RESPONSE_REASON);
+    if pdu < 2 {
+        return unread(c, 4);
     }
     if pdu == 4 {
         return read_abort(s, c);
     }
-    unread(c, 4)
+    read_release(s, c, release_tag(pdu))
 }
