@@ -7,7 +7,7 @@ use Rattle.acse_bodies.proofs.read_body.Statement.{statement}
 use Rattle.acse_bodies.proofs.read_body.Tie as tie
 
 returns : tie.Need-returns
-returns c = record { grows = rw (c .unread .ensures) (unread-chosen (c .before .before .before .args .pdu) (c .before .if1 .taken) refl) }
+returns c = record { grows = rw (c .unread .ensures) (unread-chosen (c .before .before .before .args .pdu) (omega (arith, c .before .if1 .taken)) refl) }
 
 returns-2 : tie.Need-returns-2
 unfolding readChoice
