@@ -96,11 +96,18 @@ module _ {s : List ℕ} {at v has b raw k w : ℕ} (most : ℕ) (a : Ahead s at 
 abbrev places : Alts
 places = message.named 99 5 ∥ message.named 100 4 ∥ none-left
 
+chosen : {t most : ℕ} (kind : ℕ) (x : Ctx) (s : List ℕ) (e p : ℕ) → kind < 2 → (kind ≡ 0 → (t ≡ 99) × (most ≡ 5)) → (kind ≡ 1 → (t ≡ 100) × (most ≡ 4)) → readChoice places kind x (bitOf s) e p ≡ read (message.named t most) x (bitOf s) e p
+unfolding readChoice
+chosen zero x s e p h fix navaid = rw (fix refl .0, fix refl .1)
+chosen (suc zero) x s e p h fix navaid = rw (navaid refl .0, navaid refl .1)
+chosen (suc (suc i)) x s e p h fix navaid = absurd (omega arith)
+
 pub published-named : {t most : ℕ} {s : List ℕ} {at n m v kind : ℕ} {w w₁ w₂ : List ℕ} {r : Step} → Ahead s at 57 v → kind ≡ v / 2 ^ (64 - 1) → Told 1 w w₁ n m (rec 98 0 kind 0 at ∷ [])
-    → ((x : Ctx) (e p : ℕ) → readChoice places kind x (bitOf s) e p ≡ read (message.named t most) x (bitOf s) e p) → Ample 12 110 (message.named t most) s (at + 1) m w₁ w₂ r → Ample 13 111 message.published s at n w w₂ r
+    → (kind ≡ 0 → (t ≡ 99) × (most ≡ 5)) → (kind ≡ 1 → (t ≡ 100) × (most ≡ 4)) → Ample 12 110 (message.named t most) s (at + 1) m w₁ w₂ r → Ample 13 111 message.published s at n w w₂ r
 unfolding width widthIn highest count
-published-named {t} {most} a e told c x =
-    ample-before 1 told x (omega arith) (omega arith) (omega arith) (λ i S y. sure-choice 98 places (message.named t most) 1 _ refl (e ∙ first-spelt a 1 (omega arith)) (c (0, i)) y)
+published-named {t} {most} {s} {at} {kind = kind} a e told fix navaid x =
+    let k : kind ≡ uint (bitOf s) at 1 = e ∙ first-spelt a 1 (omega arith) in
+    ample-before 1 told x (omega arith) (omega arith) (omega arith) (λ i S y. sure-choice 98 places (message.named t most) 1 _ refl k (λ d p. chosen kind (0, i) s d p (omega (arith, k, uint-below s at 1)) fix navaid) y)
 
 ---------------------------------------------------------------- bearings and designators
 

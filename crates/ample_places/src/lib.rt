@@ -95,6 +95,36 @@ fn read_named(
     }
 }
 
+// What a published place of a kind is named by: its tag, the ends of the size of its name and the bits that the size takes.
+struct Naming {
+    tag: u64,
+    least: usize,
+    most: u64,
+    wide: usize,
+}
+
+// Kind 0 is a fix, kind 1 a navaid.
+fn naming_of(kind: u64) -> Naming
+    ensures { λ r. ⌜ (r .least ≡ 1) × (width (r .most - 1) ≡ r .wide) × (1 ≤ r .wide) × (r .wide ≤ 3) × (kind ≡ 0 → (r .tag ≡ 99) × (r .most ≡ 5)) × (kind ≡ 1 → (r .tag ≡ 100) × (r .most ≡ 4)) ⌝ }
+{
+    if kind == 0 {
+        let wide = FIX_SIZE.width();
+        return Naming {
+            tag: PUBLISHED_FIX,
+            least: FIX_SIZE.lo as usize,
+            most: FIX_SIZE.hi,
+            wide: wide,
+        };
+    }
+    let wide = NAVAID_SIZE.width();
+    Naming {
+        tag: PUBLISHED_NAVAID,
+        least: NAVAID_SIZE.lo as usize,
+        most: NAVAID_SIZE.hi,
+        wide: wide,
+    }
+}
+
 pub fn read_published(s: &[u8], words: &mut [u64], n: usize, at: usize) -> Step
     requires { ⌜ (n < 2 ^ 27) × (space (n + 13) ≤ length (now words)) × (at < 2 ^ 57) × (at + 157 ≤ length (now s) * 8) ⌝ }
     ensures { λ r. ⌜ Ample 13 111 message.published (now (s .entry)) at n (now (words .entry)) (now (words .exit)) r ⌝ }
@@ -102,23 +132,8 @@ pub fn read_published(s: &[u8], words: &mut [u64], n: usize, at: usize) -> Step
     let kind = first(ahead(s, at), KIND);
     let m = store(words, n, PUBLISHED, 0, kind, 0, at);
     let p = at + KIND;
-    if kind == 0 {
-        let least = FIX_SIZE.lo as usize;
-        let wide = FIX_SIZE.width();
-        return read_named(s, words, m, p, PUBLISHED_FIX, least, FIX_SIZE.hi, wide);
-    }
-    let least = NAVAID_SIZE.lo as usize;
-    let wide = NAVAID_SIZE.width();
-    read_named(
-        s,
-        words,
-        m,
-        p,
-        PUBLISHED_NAVAID,
-        least,
-        NAVAID_SIZE.hi,
-        wide,
-    )
+    let by = naming_of(kind);
+    read_named(s, words, m, p, by.tag, by.least, by.most, by.wide)
 }
 
 // Both kinds of degrees have one range.
