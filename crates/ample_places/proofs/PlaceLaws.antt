@@ -25,9 +25,9 @@ use Rattle.ample_bits.specs.Ahead.{Ahead}
 use Rattle.ample_bits.proofs.AheadLaws.{first-spelt, behind-ahead}
 use Rattle.ample_readings.specs.declared.Step.{Step}
 use Rattle.ample_readings.specs.Sure.{Sure}
-use Rattle.ample_readings.specs.Ample.{Ample}
-use Rattle.ample_readings.proofs.SureLaws.{sure-num, sure-choice, sure-seq, sure-plain, sure-must, sure-last, sure-end, sure-absent, sure-last-present, sure-text}
-use Rattle.ample_readings.proofs.AmpleLaws.{ample-before}
+use Rattle.ample_readings.specs.Ample.{Done, Ample}
+use Rattle.ample_readings.proofs.SureLaws.{sure-num, sure-choice, sure-seq, sure-must, sure-end, sure-absent, sure-last-present, sure-text}
+use Rattle.ample_readings.proofs.AmpleLaws.{ample-before, done-plain, done-must, done-last}
 
 -- a text of one to eight characters is one record
 packed-one : (t q at k : ℕ) (s : List ℕ) → 1 ≤ k → k ≤ 8 → pack t 0 q (units (bitOf s) 7 at k) ≡ rec t 0 (octets 8 (units (bitOf s) 7 at k)) k q ∷ []
@@ -132,9 +132,11 @@ degrees-sure {x} {s} {at} {kind = kind} {raw = raw} {d} {w} p q a e f g =
     one (suc zero) h d p = refl
     one (suc (suc i)) h d p = absurd (omega arith)
 
-pub bearing-sure : {x : Ctx} {s : List ℕ} {at p q m n : ℕ} {R S : List Rec} → Sure message.published x s at p R m → Sure message.degrees x s p q S n → Sure (seq (message.published ⨾ message.degrees ⨾ end)) x s at q (R ++ S) (or m n)
+-- a place with its bearing
+pub done-bearing : {s : List ℕ} {at n : ℕ} {w w₁ w₂ : List ℕ} {r r₁ : Step} → Done 13 111 message.published s at n w w₁ r → Done 2 10 message.degrees s (r .at) (r .n) w₁ w₂ r₁
+    → Done 15 121 (seq (message.published ⨾ message.degrees ⨾ end)) s at n w w₂ (record { at = r₁ .at; n = r₁ .n; marks = or (r .marks) (r₁ .marks) })
 unfolding flags allRead
-bearing-sure {at = at} y z = sure-plain refl refl (sure-must {q = at} y (sure-last z))
+done-bearing d e = done-plain refl refl (done-must d (done-last e))
 
 pub designator-sure : {x : Ctx} {s : List ℕ} {at v raw k w : ℕ} → width 5 ≡ w → w ≤ 3 → Ahead s at 57 v → raw ≡ v / 2 ^ (64 - w) → k ≡ raw + 2 → Sure (message.ia5 101 2 7) x s at (at + w + k * 7) (pack 101 (x .0) at (units (bitOf s) 7 (at + w) k)) (over 7 k)
 designator-sure {w = w} q l a e f = sure-text 101 2 7 w q (omega (arith, e ∙ first-spelt a w (omega arith)))

@@ -4,12 +4,11 @@ ghost use Prim.Native.Nat.{_+_, _-_, _*_, _^_, _≤_, _<_};
 ghost use lib.ListN.{length};
 ghost use Rattle.x691.specs.Bits.{bitOf};
 ghost use Rattle.x691.specs.Encoding.{width};
-ghost use Rattle.atn.specs.Format.{seq, end, _⨾_};
 ghost use Rattle.atn.specs.Messages as message;
 ghost use Rattle.atn.specs.Reading.{pack, units};
 ghost use Rattle.records.specs.Space.{space};
 ghost use Rattle.records.specs.Told.{Told};
-ghost use Rattle.ample_readings.specs.Ample.{Ample};
+ghost use Rattle.ample_readings.specs.Ample.{Done, Ample};
 use ample_angles::read_pair;
 use ample_bits::ahead;
 use ample_bits::behind;
@@ -139,7 +138,7 @@ pub fn read_published(s: &[u8], words: &mut [u64], n: usize, at: usize) -> Step
 // Both kinds of degrees have one range.
 pub fn read_degrees(s: &[u8], words: &mut [u64], n: usize, at: usize) -> Step
     requires { ⌜ (n < 2 ^ 30) × (space (n + 2) ≤ length (now words)) × (at < 2 ^ 60) × (at + 64 ≤ length (now s) * 8) ⌝ }
-    ensures { λ r. ⌜ Ample 2 10 message.degrees (now (s .entry)) at n (now (words .entry)) (now (words .exit)) r ⌝ }
+    ensures { λ r. ⌜ Done 2 10 message.degrees (now (s .entry)) at n (now (words .entry)) (now (words .exit)) r ⌝ }
 {
     let v = ahead(s, at);
     let kind = first(v, KIND);
@@ -153,26 +152,6 @@ pub fn read_degrees(s: &[u8], words: &mut [u64], n: usize, at: usize) -> Step
         at: p + wide,
         n: k,
         marks: marks,
-    }
-}
-
-// A place with its bearing.
-pub fn read_bearing(s: &[u8], words: &mut [u64], n: usize, at: usize) -> Step
-    requires { ⌜ (n < 2 ^ 26) × (space (n + 15) ≤ length (now words)) × (at < 2 ^ 56) × (at + 176 ≤ length (now s) * 8) ⌝ }
-    ensures { λ r. ⌜ Ample 15 121 (seq (message.published ⨾ message.degrees ⨾ end)) (now (s .entry)) at n (now (words .entry)) (now (words .exit)) r ⌝ }
-{
-    let x = read_published(s, words, n, at);
-    let p = x.at;
-    let k = x.n;
-    let marks = x.marks;
-    if p == 0 {
-        return x;
-    }
-    let y = read_degrees(s, words, k, p);
-    Step {
-        at: y.at,
-        n: y.n,
-        marks: marks | y.marks,
     }
 }
 

@@ -1,7 +1,7 @@
 use borrow.Author.Needs.{needs}
 use native.Mathlib.Omega.{arith}
 use Rattle.records.proofs.Telling.{told-then, room-next, room-behind}
-use Rattle.ample_readings.proofs.AmpleLaws.{ample-done, room-of}
+use Rattle.ample_readings.proofs.AmpleLaws.{room-of}
 use Rattle.ample_places.proofs.PlaceLaws.{second-below, degrees-wide, degrees-sure}
 use Rattle.ample_places.proofs.read_degrees.Statement.{statement}
 use Rattle.ample_places.proofs.read_degrees.Tie as tie
@@ -29,12 +29,12 @@ returns c =
     let b = c .before .before .before .before .before .before .before .before .before in
     let f = b .before .before in
     let w = f .before .before .width .ensures .0 in
-    ample-done (record {
+    record {
       recs = _;
-      sure = λ i. rw (c .above .ensures) (degrees-sure (c .before .extent .ensures) w (f .before .before .before .before .ahead .ensures) (f .before .before .before .first .ensures) (f .before .behind .ensures) (f .first2 .ensures));
+      sure = λ i. rw (← (c .above .ensures)) at (degrees-sure {x = (0, i)} (c .before .extent .ensures) w (f .before .before .before .before .ahead .ensures) (f .before .before .before .first .ensures) (f .before .behind .ensures) (f .first2 .ensures));
       near = omega (arith, degrees-wide w);
       told = told-then (b .store .ensures) (c .before .before .before .before .store2 .ensures);
-    })
+    }
 
 pub read-degrees-spec : {M : Type 1} → statement M
 read-degrees-spec = tie.close (tie.spec (λ c κs. search needs) (λ c κs. search needs) (λ c κs. search needs) (λ c κs. search needs) first-requires-2 (λ c. search needs) store-requires add-store store-requires-2 (λ c κs. search needs) (λ c κs. search needs) add-t19 (λ c. search needs) returns)
