@@ -32,5 +32,5 @@ angle-formed t most degrees a q told c l o x =
 pub wide-by : {m w e : ℕ} → m ≡ e → w ≡ width e → width m ≡ w
 wide-by p q = rw p (sym q)
 
-pub angle-by : {m d e g : ℕ} {s : List ℕ} {at n : ℕ} {w w′ : List ℕ} {r : Step} (t : ℕ) → m ≡ e → d ≡ g → Ample 5 24 (angleOf t m d) s at n w w′ r → Ample 5 24 (angleOf t e g) s at n w w′ r
-angle-by t p q a = rw (p, q) at a
+pub angle-by : {m d e g : ℕ} (t : ℕ) → m ≡ e → d ≡ g → angleOf t m d ≡ angleOf t e g
+angle-by t p q = rw (p, q)

@@ -132,28 +132,43 @@ fn angle(
     given_up()
 }
 
-fn latitude(s: &[u8], words: &mut [u64], n: usize, at: usize) -> Step
-    requires { ⌜ (n < 2 ^ 30) × (space (n + 5) ≤ length (now words)) × (at < 2 ^ 60) × (at + 64 ≤ length (now s) * 8) ⌝ }
-    ensures { λ r. ⌜ Ample 5 24 message.latitude (now (s .entry)) at n (now (words .entry)) (now (words .exit)) r ⌝ }
+// What an angle is read by: the first of its tags, the most of its thousandths and of its degrees, and the bits that these take.
+struct Bounds {
+    tag: u64,
+    most: u64,
+    wide: usize,
+    degrees: u64,
+    narrow: usize,
+}
+
+// By the angles of a pair that are left, 1 for the longitude and 2 for the latitude: the first of them.
+fn bounds_of(left: u64) -> Bounds
+    ensures { λ r. ⌜ (r .tag < 256) × (r .most < 2 ^ 18) × (width (r .most) ≡ r .wide) × (1 ≤ r .wide) × (r .wide ≤ 18) × (r .degrees < 256) × (width (r .degrees) ≡ r .narrow) × (1 ≤ r .narrow) × (r .narrow ≤ 8) × (left ≡ 1 → angleOf (r .tag) (r .most) (r .degrees) ≡ message.longitude) × ((left ≡ 1 → ⊥) → angleOf (r .tag) (r .most) (r .degrees) ≡ message.latitude) ⌝ }
 {
-    let v = ahead(s, at);
+    if left == 1 {
+        let most = LONGITUDE_THOUSANDTHS.extent();
+        let wide = LONGITUDE_THOUSANDTHS.width();
+        let degrees = LONGITUDE_DEGREES.extent();
+        let narrow = LONGITUDE_DEGREES.width();
+        return Bounds {
+            tag: LONGITUDE,
+            most: most,
+            wide: wide,
+            degrees: degrees,
+            narrow: narrow,
+        };
+    }
     let most = LATITUDE_THOUSANDTHS.extent();
     let wide = LATITUDE_THOUSANDTHS.width();
     let degrees = LATITUDE_DEGREES.extent();
     let narrow = LATITUDE_DEGREES.width();
-    angle(words, n, v, at, LATITUDE, most, wide, degrees, narrow)
-}
-
-fn longitude(s: &[u8], words: &mut [u64], n: usize, at: usize) -> Step
-    requires { ⌜ (n < 2 ^ 30) × (space (n + 5) ≤ length (now words)) × (at < 2 ^ 60) × (at + 64 ≤ length (now s) * 8) ⌝ }
-    ensures { λ r. ⌜ Ample 5 24 message.longitude (now (s .entry)) at n (now (words .entry)) (now (words .exit)) r ⌝ }
-{
-    let v = ahead(s, at);
-    let most = LONGITUDE_THOUSANDTHS.extent();
-    let wide = LONGITUDE_THOUSANDTHS.width();
-    let degrees = LONGITUDE_DEGREES.extent();
-    let narrow = LONGITUDE_DEGREES.width();
-    angle(words, n, v, at, LONGITUDE, most, wide, degrees, narrow)
+    Bounds {
+        tag: LATITUDE,
+        most: most,
+        wide: wide,
+        degrees: degrees,
+        narrow: narrow,
+    }
 }
 
 // Latitude and longitude, each of which may be absent.
@@ -170,23 +185,37 @@ pub fn read_pair(s: &[u8], words: &mut [u64], n: usize, at: usize) -> Step
             marks: 0,
         };
     }
-    if has == 1 {
-        return longitude(s, words, m, at + 2);
-    }
-    let x = latitude(s, words, m, at + 2);
-    if has == 2 {
-        return x;
-    }
-    let p = x.at;
-    let k = x.n;
-    let marks = x.marks;
-    if p == 0 {
-        return x;
-    }
-    let y = longitude(s, words, k, p);
-    Step {
-        at: y.at,
-        n: y.n,
-        marks: marks | y.marks,
+    let mut p = at + 2;
+    let mut k = m;
+    let mut marks: u64 = 0;
+    let mut left = has;
+    loop {
+        let by = bounds_of(left);
+        let v = ahead(s, p);
+        let x = angle(
+            words,
+            k,
+            v,
+            p,
+            by.tag,
+            by.most,
+            by.wide,
+            by.degrees,
+            by.narrow,
+        );
+        if left != 3 {
+            return Step {
+                at: x.at,
+                n: x.n,
+                marks: marks | x.marks,
+            };
+        }
+        p = x.at;
+        k = x.n;
+        marks = x.marks;
+        left = 1;
+        if p == 0 {
+            return x;
+        }
     }
 }

@@ -1,20 +1,30 @@
--- `read_pair` meets its contract, by its presence bits.
-use mathlib.Core.Path.{_∙_}
+-- `read_pair` meets its contract: what is left of its angles makes the pair.
+use mathlib.Core.Path.{_≡_, refl, _∙_}
+use Prim.Native.Nat.{_+_, _≤_}
 use borrow.Author.Needs.{needs}
 use native.Mathlib.Omega.{arith}
+use lib.ListN.{length}
 use Rattle.per.proofs.Laws.{uint-below}
 use Rattle.atn.specs.Reading.{or}
-use Rattle.records.proofs.Telling.{told-then, told-within, room-next, room-behind}
-use Rattle.ample_bits.proofs.AheadLaws.{first-spelt}
-use Rattle.ample_readings.proofs.AmpleLaws.{ample-done, ample-before, ample-none, ample-untold, room-of, room-fewer, room-after}
-use Rattle.ample_angles.proofs.PairLaws.{pair-none, pair-second, pair-first, ample-both}
+use Rattle.records.proofs.Sizes.{space-grows}
+use Rattle.records.proofs.Telling.{told-within, room-next}
+use Rattle.ample_bits.proofs.AheadLaws.{first-spelt, ahead-fewer}
+use Rattle.ample_readings.proofs.AmpleLaws.{ample-done, room-of}
+use Rattle.ample_angles.proofs.PairLaws.{pair-none, Left, left-all, left-next, left-last}
 use Rattle.ample_angles.proofs.read_pair.Statement.{statement}
 use Rattle.ample_angles.proofs.read_pair.Tie as tie
 
-store-requires : tie.Need-store-requires
+abbrev Inv-loop : tie.InvT-loop
+Inv-loop s words₀ n at has m p₀ k₀ marks₀ left₀ words p k marks left =
+    (1 ≤ left) × (left ≤ 3) × (k ≤ m + 5) × (left ≡ 3 → (k ≡ m) × (p ≡ at + 2)) × (p ≤ at + 26) × (length words ≡ length words₀) × Left s at n m words₀ words k p marks left
+
+abbrev μ-loop : tie.MeasureT-loop
+μ-loop s words₀ n at has m p₀ k₀ marks₀ left₀ words p k marks left = left
+
+store-requires : tie.Need-store-requires Inv-loop μ-loop
 store-requires c κs = let a = c .before .before .before .before .before in room-next _ (room-of 11 (a .args .n) (a .args .words .now) (omega (arith, a .pre .0)) (omega arith) (a .pre .1))
 
-returns : tie.Need-returns
+returns : tie.Need-returns Inv-loop μ-loop
 returns c =
     let f = c .before .before .before .before .before in
     ample-done (record {
@@ -24,57 +34,68 @@ returns c =
       told = told-within 11 (omega arith) (c .before .before .before .store .ensures);
     })
 
-longitude-requires : tie.Need-longitude-requires
-longitude-requires c κs =
-    let b = c .before .before .before .before .before in
-    let a = b .before .before .before .before .before .before in
-    let r = room-behind (room-of 11 (a .args .n) (a .args .words .now) (omega (arith, a .pre .0)) (omega arith) (a .pre .1)) (b .store .ensures) in
-    (omega (arith, b .store .ensures .few, a .pre .0), room-fewer 5 r (omega arith), omega (arith, a .pre .2), omega (arith, a .pre .3))
-
-returns-2 : tie.Need-returns-2
-returns-2 c =
-    let b = c .before .before .before .before .before .before .before .before in
-    let f = b .before .before in
-    ample-before 2 (b .store .ensures) (c .before .before .longitude .ensures) (omega arith) (omega arith) (omega arith)
-    (λ i S y. pair-second (f .first .ensures ∙ first-spelt (f .before .ahead .ensures) 2 (omega arith)) (c .before .before .before .before .if2 .taken) y)
-
-latitude-requires : tie.Need-latitude-requires
-latitude-requires c κs =
-    let b = c .before .before .before .before .before in
-    let a = b .before .before .before .before .before .before in
-    let r = room-behind (room-of 11 (a .args .n) (a .args .words .now) (omega (arith, a .pre .0)) (omega arith) (a .pre .1)) (b .store .ensures) in
-    (omega (arith, b .store .ensures .few, a .pre .0), room-fewer 5 r (omega arith), omega (arith, a .pre .2), omega (arith, a .pre .3))
-
-returns-3 : tie.Need-returns-3
-returns-3 c =
-    let b = c .before .before .before .before .before .before .before .before .before in
-    let f = b .before .before in
-    ample-before 2 (b .store .ensures) (c .before .before .before .latitude .ensures) (omega arith) (omega arith) (omega arith)
-    (λ i S y. pair-first (f .first .ensures ∙ first-spelt (f .before .ahead .ensures) 2 (omega arith)) (c .if3 .taken) y)
-
-returns-4 : tie.Need-returns-4
-returns-4 c = ample-none (told-then (c .before .before .before .before .before .before .before .before .before .before .store .ensures) (ample-untold (c .before .before .before .before .latitude .ensures))) (c .if4 .taken)
-
-longitude-requires-2 : tie.Need-longitude-requires-2
-longitude-requires-2 c κs =
-    let l = c .before .before .before .before .before in
-    let b = l .before .before .before .before .before .before in
-    let a = b .before .before .before .before .before .before in
-    let d = l .latitude .ensures .done (c .before .if4 .left) in
-    let r = room-behind (room-of 11 (a .args .n) (a .args .words .now) (omega (arith, a .pre .0)) (omega arith) (a .pre .1)) (b .store .ensures) in
-    (omega (arith, b .store .ensures .few, a .pre .0, d .told .few), room-after 5 r (d .told) (omega arith), omega (arith, a .pre .2, d .near), omega (arith, a .pre .3, d .near))
-
-returns-5 : tie.Need-returns-5
-unfolding or
-returns-5 c =
-    let l = c .before .before .before .before .before .before .before .before .before in
-    let b = l .before .before .before .before .before .before in
-    let f = b .before .before in
+loop-holds : tie.Need-loop-holds Inv-loop μ-loop
+loop-holds c =
+    let f = c .before .before .before .before .before in
+    let a = f .before .before .before .before in
     let u = f .first .ensures ∙ first-spelt (f .before .ahead .ensures) 2 (omega arith) in
-    ample-both u (omega (arith, u, uint-below (f .before .before .before .before .args .s .now) (f .before .before .before .before .args .at) 2, c .before .before .before .before .before .before .if3 .left, l .before .before .if2 .left, l .before .before .before .if1 .left)) (b .store .ensures) (l .latitude .ensures .done (c .before .before .before .before .before .if4 .left)) (c .before .before .before .longitude2 .ensures)
+    (omega (arith, c .if1 .left), omega (arith, u, uint-below (a .args .s .now) (a .args .at) 2), omega arith, λ _. (refl, refl), omega arith, refl, left-all u)
+
+ahead-requires-2 : tie.Need-ahead-requires-2 Inv-loop μ-loop
+ahead-requires-2 c κs = omega (arith, c .before .loop .inv .4, c .before .before .before .before .before .before .before .before .before .before .before .pre .3)
+
+angle-requires : tie.Need-angle-requires Inv-loop μ-loop
+angle-requires c κs =
+    let l = c .before .before .before in
+    let b = l .before .before .before .before in
+    let a = b .before .before .before .before .before .before in
+    let i = l .loop .inv in
+    let t = b .store .ensures in
+    let w = c .before .before .bounds-of .ensures in
+    let e : l .loop .k + 5 ≤ a .args .n + 11 = omega (arith, i .2, t .few) in
+    (omega (arith, e, a .pre .0), omega (arith, a .pre .1, t .room, i .5, space-grows e), omega (arith, i .4, a .pre .2), w .0, w .1, w .2, w .3, w .4, w .5, w .6, w .7, w .8)
+
+same-length-2 : tie.Need-same-length-2 Inv-loop μ-loop
+same-length-2 c =
+    let y = c .before .before .before .before in
+    let l = y .before .before .before .before in
+    omega (arith, (y .angle .ensures _ (ahead-fewer 24 (y .before .before .ahead2 .ensures) (omega arith))) .room, l .loop .inv .5, l .before .before .before .before .store .ensures .room)
+
+returns-2 : tie.Need-returns-2 Inv-loop μ-loop
+unfolding or
+returns-2 c =
+    let y = c .before .before .before .before in
+    let w = y .before .before .before .bounds-of .ensures in
+    let l = y .before .before .before .before in
+    let i = l .loop .inv in
+    left-last (l .loop .left) (i .6) (i .0) (omega (arith, i .1, c .before .if2 .taken)) (w .9) (w .10) (l .before .before .before .before .store .ensures) (y .angle .ensures _ (ahead-fewer 24 (y .before .before .ahead2 .ensures) (omega arith)))
+
+same-length-3 : tie.Need-same-length-3 Inv-loop μ-loop
+same-length-3 c =
+    let y = c .before .before .before .before in
+    let l = y .before .before .before .before in
+    omega (arith, (y .angle .ensures _ (ahead-fewer 24 (y .before .before .ahead2 .ensures) (omega arith))) .room, l .loop .inv .5, l .before .before .before .before .store .ensures .room)
+
+returns-3 : tie.Need-returns-3 Inv-loop μ-loop
+returns-3 c =
+    let y = c .before .before .before .before in
+    let l = y .before .before .before .before in
+    l .loop .inv .6 .none (c .before .if2 .left) _ _ _ _ (l .before .before .before .before .store .ensures) (y .angle .ensures _ (ahead-fewer 24 (y .before .before .ahead2 .ensures) (omega arith))) (c .if3 .taken)
+
+loop-less : tie.Need-loop-less Inv-loop μ-loop
+loop-less c = omega (arith, c .before .if2 .left)
+
+loop-again : tie.Need-loop-again Inv-loop μ-loop
+loop-again c =
+    let y = c .before .before .before .before in
+    let l = y .before .before .before .before in
+    let i = l .loop .inv in
+    let h = i .3 (c .before .if2 .left) in
+    let d = (y .angle .ensures _ (ahead-fewer 24 (y .before .before .ahead2 .ensures) (omega arith))) .done (c .if3 .left) in
+    (omega arith, omega arith, omega (arith, h .0, d .told .few), λ q. absurd (omega (arith, q)), omega (arith, h .1, d .near), omega (arith, i .5, d .told .room), left-next (i .6) (c .before .if2 .left) (y .before .before .before .bounds-of .ensures .10 (λ q. omega (arith, q, c .before .if2 .left))) d)
 
 pub read-pair-spec : {M : Type 1} → statement M
 read-pair-spec =
     tie.close
     (tie.spec
-    (λ c κs. search needs) (λ c κs. search needs) store-requires (λ c. search needs) (λ c. search needs) returns (λ c. search needs) longitude-requires (λ c. search needs) returns-2 (λ c. search needs) latitude-requires (λ c. search needs) returns-3 (λ c. search needs) returns-4 longitude-requires-2 (λ c. search needs) returns-5)
+    Inv-loop μ-loop (λ c κs. search needs) (λ c κs. search needs) store-requires (λ c. search needs) (λ c. search needs) returns (λ c. search needs) loop-holds (λ c κs. search needs) ahead-requires-2 angle-requires same-length-2 returns-2 same-length-3 returns-3 loop-less loop-again)
