@@ -1,11 +1,7 @@
 -- `read_places` meets its contract: what is left of the places makes all of them.
-use Prim.Native.Nat.{_^_}
-use borrow.Author.Needs.{needs}
 use native.Mathlib.Omega.{arith}
 use lib.ListN.{length}
 use Rattle.atn.specs.Reading.{or}
-use Rattle.ample_readings.specs.Ample.{Done}
-use Rattle.ample_readings.proofs.AmpleLaws.{ample-done}
 use Rattle.ample_places.proofs.RoomLaws.{fits-on}
 use Rattle.ample_places.proofs.PlaceLaws.{done-bearing}
 use Rattle.ample_legs.proofs.PlacesLaws.{Rest, rest-all, rest-none, rest-bare, rest-last, rest-next, Stands, place-fits, bearing-fits}
