@@ -55,7 +55,7 @@ ample-both u e t d x =
     }
 
 -- the step with these marks too
-abbrev marked : ℕ → Step → Step
+abbrev pub marked : ℕ → Step → Step
 marked m r = record { at = r .at; n = r .n; marks = or m (r .marks) }
 
 module _ (s : List ℕ) (at n m : ℕ) (w₀ : List ℕ) where

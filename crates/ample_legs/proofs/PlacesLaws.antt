@@ -13,12 +13,9 @@ use Rattle.ample_readings.specs.declared.Step.{Step}
 use Rattle.ample_readings.specs.Ample.{Done, Ample}
 use Rattle.ample_readings.proofs.SureLaws.{sure-two}
 use Rattle.ample_readings.proofs.AmpleLaws.{done-within, ample-after, ample-none, ample-untold}
+use Rattle.ample_angles.proofs.PairLaws.{marked}
 use Rattle.ample_places.proofs.RoomLaws.{Fits}
 use Rattle.ample_legs.specs.Route.{placesOf}
-
--- the step with these marks too
-abbrev marked : ℕ → Step → Step
-marked m r = record { at = r .at; n = r .n; marks = or m (r .marks) }
 
 module _ (s : List ℕ) (at n : ℕ) (w : List ℕ) (bearings : ℕ) where
   pub record Rest (w₁ : List ℕ) (m p marks left : ℕ) : Type 0 where
