@@ -1,11 +1,12 @@
 // The records of a message, in lent words.
 ghost use mathlib.Core.Path.{_≡_};
-ghost use Prim.Native.Nat.{_<_, _≤_, _^_};
+ghost use Prim.Native.Nat.{_+_, _<_, _≤_, _^_};
 ghost use lib.ListN.{length};
 ghost use mathlib.Core.List.{_∷_, _++_};
 ghost use Rattle.atn.specs.Entries.{settle};
 ghost use Rattle.atn.specs.Reading.{rec};
 ghost use Rattle.atn.specs.Tags.{acse-pdu};
+ghost use Rattle.records.specs.Space.{space};
 ghost use Rattle.records.specs.Told.{Told};
 ghost use Rattle.answers.specs.Says.{Says};
 ghost use Rattle.acse_reasons.specs.Notes.{noteRecs};
@@ -14,37 +15,38 @@ use acse_apdus::Message;
 use acse_reasons::notes::Note;
 use acse_reasons::tags;
 use answers::Answer;
-use records::emit;
 use records::space::words_for;
+use records::store;
 
 fn count(n: Note) -> usize
     ensures { λ r. ⌜ (r ≡ length (noteRecs n)) × (r ≤ 1) ⌝ }
 {
-    if n.told {
-        return 1;
+    match n {
+        Note::Untold => 0,
+        Note::Told(_, _, _, _) => 1,
     }
-    0
 }
 
 // The note's record, with n before it, and how many there are then.
 fn tell(words: &mut [u64], n: usize, note: Note) -> usize
-    requires { ⌜ n < 2 ^ 32 ⌝ }
+    requires { ⌜ (n < 2 ^ 32) × (space (n + length (noteRecs note)) ≤ length (now words)) ⌝ }
     ensures { λ m. ⌜ Told 1 (now (words .entry)) (now (words .exit)) n m (noteRecs note) ⌝ }
 {
-    if note.told {
-        return emit(words, n, note.tag, 0, note.value, note.second, note.at);
+    match note {
+        Note::Untold => n,
+        Note::Told(tag, value, second, at) => store(words, n, tag, 0, value, second, at),
     }
-    n
 }
 
 // All records of a message, from the front on.
 fn tell_all(words: &mut [u64], message: Message) -> usize
+    requires { ⌜ space (1 + length (noteRecs (message .first)) + length (noteRecs (message .next))) ≤ length (now words) ⌝ }
     ensures { λ m. ⌜ Told 3 (now (words .entry)) (now (words .exit)) 0 m (rec acse-pdu 0 (message .pdu) (message .second) (message .at) ∷ noteRecs (message .first) ++ noteRecs (message .next)) ⌝ }
 {
     let first = message.first;
     let next = message.next;
     let at = message.at;
-    let n = emit(words, 0, tags::ACSE_PDU, 0, message.pdu, message.second, at);
+    let n = store(words, 0, tags::ACSE_PDU, 0, message.pdu, message.second, at);
     let m = tell(words, n, first);
     tell(words, m, next)
 }

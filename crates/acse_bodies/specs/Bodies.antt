@@ -11,7 +11,8 @@ use Rattle.cursor.specs.Place as place
 use Rattle.acse_reasons.specs.declared.notes.NoteAt.{NoteAt}
 use Rattle.acse_bodies.specs.declared.Body.{Body}
 use Rattle.acse_reasons.specs.SoFar.{Grows}
-use Rattle.acse_reasons.specs.Notes.{noteRecs, blank, listedReason}
+use Rattle.acse_reasons.specs.declared.notes.Note.the-variants.{Untold}
+use Rattle.acse_reasons.specs.Notes.{noteRecs, listedReason}
 
 abbrev pub releaseBody : ℕ → Fmt
 releaseBody t = ext (seq (orNote t 0 2 (listedReason t) end)) null
@@ -26,10 +27,10 @@ abbrev pub bodyRecs : Body → List Rec
 bodyRecs r = noteRecs (r .first) ++ noteRecs (r .next)
 
 abbrev pub unreadBody : Cursor → ℕ → Body
-unreadBody c m = record { first = blank; next = blank; c = place.marked c m }
+unreadBody c m = record { first = Untold; next = Untold; c = place.marked c m }
 
 abbrev pub aloneBody : NoteAt → Body
-aloneBody n = record { first = n .note; next = blank; c = n .c }
+aloneBody n = record { first = n .note; next = Untold; c = n .c }
 
 -- the body of the message with the index i
 pub record Chosen (s : List ℕ) (c : Cursor) (i : ℕ) (r : Body) : Type 0 where

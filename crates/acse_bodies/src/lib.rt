@@ -10,7 +10,6 @@ use acse_reasons::few::few;
 use acse_reasons::notes::Note;
 use acse_reasons::notes::NoteAt;
 use acse_reasons::notes::note_at;
-use acse_reasons::notes::untold;
 use acse_reasons::reasons::reason;
 use acse_reasons::reasons::release_reason;
 use acse_reasons::tags;
@@ -31,10 +30,9 @@ pub fn unread(c: Cursor, marks: u64) -> Body
     ensures { λ r. ⌜ r ≡ unreadBody c marks ⌝ }
 {
     let d = mark(c, marks);
-    let none = untold();
     Body {
-        first: none,
-        next: none,
+        first: Note::Untold,
+        next: Note::Untold,
         c: d,
     }
 }
@@ -44,10 +42,9 @@ fn alone(n: NoteAt) -> Body
 {
     let first = n.note;
     let c = n.c;
-    let none = untold();
     Body {
         first: first,
-        next: none,
+        next: Note::Untold,
         c: c,
     }
 }

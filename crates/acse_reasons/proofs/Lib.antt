@@ -1,2 +1,3 @@
 pub mod GrowLaws
 pub mod FormatLaws
+pub mod NoteLaws

@@ -13,7 +13,7 @@ returns-2 : tie.Need-returns-2
 returns-2 c = keeps-alone (c .before .before .before .reason .result) (c .alone .ensures) (keeps-root (c .before .before .before .before .before .before .before .few .ensures) (c .before .before .before .before .before .if1 .left) (keeps-first (c .before .before .before .before .few2 .ensures) (c .before .if2 .taken) (c .before .before .before .reason .ensures)))
 
 returns-3 : tie.Need-returns-3
-returns-3 c = keeps-root (c .before .before .before .before .before .before .before .before .before .before .few .ensures) (c .before .before .before .before .before .before .before .before .if1 .left) (keeps-both (c .before .before .before .before .before .before .before .few2 .ensures) (c .before .before .before .before .if2 .left) (c .before .before .before .before .before .before .reason .ensures) (c .before .before .before .reason2 .ensures))
+returns-3 c = keeps-root (c .before .before .before .before .before .before .before .before .few .ensures) (c .before .before .before .before .before .before .if1 .left) (keeps-both (c .before .before .before .before .before .few2 .ensures) (c .before .before .if2 .left) (c .before .before .before .before .reason .ensures) (c .before .reason2 .ensures))
 
 pub read-abort-spec : {M : Type 1} → statement M
 read-abort-spec =

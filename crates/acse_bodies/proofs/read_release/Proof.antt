@@ -1,4 +1,5 @@
 use mathlib.Core.Path.{refl}
+use Rattle.acse_reasons.proofs.NoteLaws.{noted}
 use Rattle.acse_reasons.proofs.FormatLaws.{keeps-root, keeps-unread}
 use Rattle.acse_bodies.proofs.SequenceLaws.{keeps-absent, keeps-given}
 use Rattle.acse_bodies.proofs.BodyLaws.{keeps-alone}
@@ -11,7 +12,7 @@ returns c = rw (c .unread .ensures) (keeps-unread (c .before .before .before .fe
 
 returns-2 : tie.Need-returns-2
 returns-2 c =
-    keeps-alone (c .before .note-at .result) (c .alone .ensures) (rw (c .before .note-at .ensures) (keeps-root (c .before .before .before .before .before .before .before .few .ensures) (c .before .before .before .before .before .if1 .left) (keeps-absent _ 0 2 (c .before .before .before .before .few2 .ensures) (c .before .before .if2 .taken))))
+    keeps-alone (c .before .note-at .result) (c .alone .ensures) (rw (c .before .note-at .ensures) (simp noted (keeps-root (c .before .before .before .before .before .before .before .few .ensures) (c .before .before .before .before .before .if1 .left) (keeps-absent _ 0 2 (c .before .before .before .before .few2 .ensures) (c .before .before .if2 .taken)))))
 
 returns-3 : tie.Need-returns-3
 returns-3 c = keeps-alone (c .before .release-reason .result) (c .alone2 .ensures) (keeps-root (c .before .before .before .before .before .before .before .few .ensures) (c .before .before .before .before .before .if1 .left) (keeps-given _ 0 2 (c .before .before .before .before .few2 .ensures) (c .before .before .if2 .left) (c .before .release-reason .ensures)))

@@ -3,7 +3,7 @@ use Rattle.acse_bodies.proofs.unread.Statement.{statement}
 use Rattle.acse_bodies.proofs.unread.Tie as tie
 
 returns : tie.Need-returns
-returns c = rw (c .untold .ensures, c .before .mark .ensures)
+returns c = rw (c .mark .ensures)
 
 pub unread-spec : {M : Type 1} → statement M
-unread-spec = tie.close (tie.spec (λ c κs. search needs) (λ c κs. search needs) returns)
+unread-spec = tie.close (tie.spec (λ c κs. search needs) returns)
