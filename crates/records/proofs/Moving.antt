@@ -29,11 +29,25 @@ unfolding raisedPlaces raised
 raised-before a zero i n w l = refl
 raised-before a (suc k) i n w l = raised-before a k (i + size) n _ (omega arith) ∙ take-set-le n w (i + 4) _ (omega arith)
 
--- without room there is nothing to move
-pub raised-out : (a k i : ℕ) (w : List ℕ) → length w ≤ i + 4 → raisedPlaces a k i w ≡ w
+-- those of k records, then those of j more
+pub raised-then : (a k j i : ℕ) (w : List ℕ) → raisedPlaces a (k + j) i w ≡ raisedPlaces a j (i + space k) (raisedPlaces a k i w)
+unfolding raisedPlaces space size need
+raised-then a zero j i w =
+    let e : zero + j ≡ j = omega arith in
+    let g : i + space zero ≡ i = omega arith in
+    rw (e, g) refl
+raised-then a (suc k) j i w =
+    let e : suc k + j ≡ suc (k + j) = omega arith in
+    let g : i + space (suc k) ≡ i + size + space k = omega arith in
+    rw (e, g) (raised-then a k j (i + size) (raised a w (i + 4)))
+
+-- none, or none with room: there is nothing to move
+pub raised-out : (a k i : ℕ) (w : List ℕ) → (0 < k → length w ≤ i + 4) → raisedPlaces a k i w ≡ w
 unfolding raisedPlaces raised
 raised-out a zero i w l = refl
-raised-out a (suc k) i w l = rw (set-out w (i + 4) (word (a + getD w (i + 4) 0)) l) (raised-out a k (i + size) w (omega arith))
+raised-out a (suc k) i w l =
+    let o : length w ≤ i + 4 = l (omega arith) in
+    rw (set-out w (i + 4) (word (a + getD w (i + 4) 0)) o) (raised-out a k (i + size) w (λ _. omega arith))
 
 raised-one : (a t m v s q : ℕ) (p r : List ℕ) (i : ℕ) → length p ≡ i → raised a (p ++ (t ∷ m ∷ v ∷ s ∷ q ∷ r)) (i + 4) ≡ (p ++ (t ∷ m ∷ v ∷ s ∷ word (a + q) ∷ [])) ++ r
 unfolding raised
