@@ -35,7 +35,7 @@ pub record Copied (from v w : List ℕ) (i : ℕ) : Type 0 where
   pub long : length w ≡ length v
 
 module _ {from : List ℕ} where
-  copied : {v w : List ℕ} (i : ℕ) → i ≤ length from → length from ≤ length v → w ≡ take i from ++ drop i v → Copied from v w i
+  pub copied : {v w : List ℕ} (i : ℕ) → i ≤ length from → length from ≤ length v → w ≡ take i from ++ drop i v → Copied from v w i
   copied {v = v} i few fits front =
       record { few = few; fits = fits; front = front; long = rw front (simp (length-append, length-take-le i from few, length-drop) (omega arith)) }
 

@@ -46,3 +46,12 @@ pub fn copy_two(from: &[u64], to: &mut [u64])
     to[8] = i;
     to[9] = j;
 }
+
+// Two, and two more.
+pub fn copy_four(from: &[u64], to: &mut [u64])
+    requires { ⌜ (20 ≤ length (now from)) × (length (now from) ≤ length (now to)) ⌝ }
+    ensures { λ _. ⌜ now (to .exit) ≡ take 20 (now (from .entry)) ++ drop 20 (now (to .entry)) ⌝ }
+{
+    copy_two(from, to);
+    copy_two(&from[10..], &mut to[10..]);
+}
