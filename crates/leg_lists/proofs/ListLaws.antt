@@ -20,14 +20,12 @@ use Rattle.cursor.proofs.Laws.{reads-then, reads-ok, reads-here, marked-nil}
 use Rattle.runs.specs.declared.At.{At}
 use Rattle.optional_parts.specs.Parts.{Part}
 use Rattle.optional_parts.proofs.PartLaws.{reads-stay, part-none, part-within, part-same, part-then}
+use Rattle.leg_lists.specs.Legs.{legsOf}
 
 -- the record of its place, and the leg
 pub reads-placed : {f : Fmt} {s : List ℕ} {c d : Cursor} {T : ℕ → List Rec} (t i : ℕ) → Takes f s c d T → Reads (λ e p. read (placed t f) (0, i) (bitOf s) e p) s c d ((rec t 0 i 0 (c .at) ∷ []) ++ T 0)
 unfolding read
 reads-placed {f} {s} {c} t i h = reads-then (λ e p. ok p (rec t 0 i 0 p ∷ []) 0) (λ e p. read f (0, i) (bitOf s) e p) (reads-here (λ p. rec t 0 i 0 p ∷ []) 0 (marked-nil c)) (h .took (0, i))
-
-abbrev pub legsOf : List ℕ → ℕ → ℕ → ℕ → Ans
-legsOf s i e p = times (λ j q. read message.leg (0, j) (bitOf s) e q) 1 i p
 
 module _ {s : List ℕ} {c : Cursor} {n : ℕ} where
   pub legs-none : {w : List ℕ} → Part 0 (legsOf s 0) s c n w w (record { n = n; c = c })

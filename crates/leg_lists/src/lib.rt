@@ -1,14 +1,15 @@
-// The list of legs. A leg that has all its bits ahead and room for all its records is read and told at once; else it is read as a value, and its records are told while the reading goes on.
+// The list of legs. As long as a leg has all its bits ahead and room for all its records, it is read and told at once. From the first leg on that is not, each is read as a value, and its records are told while the reading goes on.
 ghost use mathlib.Core.Path.{_≡_};
 ghost use mathlib.Core.Bool.{true};
-ghost use Prim.Native.Nat.{_+_, _*_, _≤_, _<_, _^_};
-ghost use lib.ListN.{length};
+ghost use Prim.Native.Nat.{_*_, _≤_, _<_, _^_};
 ghost use Rattle.x691.specs.Bits.{bitOf};
 ghost use Rattle.atn.specs.Format.{many};
 ghost use Rattle.atn.specs.Reading.{read};
 ghost use Rattle.atn.specs.Messages.{leg};
+ghost use Rattle.cursor.specs.Place.{put};
 ghost use Rattle.records.specs.Space.{space};
 ghost use Rattle.optional_parts.specs.Parts.{Part};
+ghost use Rattle.leg_lists.specs.Legs.{legsOf};
 use ample_legs::read_route_information;
 use character_strings::size;
 use cpdlc_tags::LEG;
@@ -21,31 +22,18 @@ use records::store;
 use runs::At;
 use tell_legs::tell_leg;
 
-// The octets that the reading of a leg with one place may touch, from that of its first bit on.
-const AMPLE_OCTETS: usize = 21;
+// The octets that the reading of a leg with one place may touch, from its first bit on.
+const AMPLE_OCTETS: usize = 20;
 
 // The records of a leg are at most as many.
 const AMPLE_RECORDS: usize = 32;
 
-// Whether the slice has octets for a leg, though they may stand behind the window's end, and the words room for its records, with n before them.
-fn is_ample(s: &[u8], room: usize, n: usize, c: Cursor) -> bool
-    requires { ⌜ n < 2 ^ 26 ⌝ }
-    ensures { λ r. ⌜ (r ≡ true → (c .why ≡ 0) × (c .at + 160 ≤ length (now (s .entry)) * 8) × (c .at < 2 ^ 32) × (n < 2 ^ 23) × (space (n + 32) ≤ room)) ⌝ }
-{
-    let at = c.at;
-    if c.why != 0 {
-        return false;
-    }
-    if 0xffff_ffff < at {
-        return false;
-    }
-    if 0x7f_ffff < n {
-        return false;
-    }
-    if room < words_for(n + AMPLE_RECORDS) {
-        return false;
-    }
-    at / 8 + AMPLE_OCTETS <= s.len()
+// How many legs were read, how many records there are then, and where and with which marks the reading goes on.
+struct Begun {
+    legs: u64,
+    n: usize,
+    at: usize,
+    marks: u64,
 }
 
 // A leg with its place in the clearance, read as a value and told if the reading goes on.
@@ -65,34 +53,79 @@ fn put_value(s: &[u8], words: &mut [u64], n: usize, c: Cursor, place: u64) -> At
     At { n: k, c: d }
 }
 
-// A leg with its place in the clearance.
-fn put_leg(s: &[u8], words: &mut [u64], n: usize, c: Cursor, place: u64) -> At
-    requires { ⌜ n < 2 ^ 26 ⌝ }
-    ensures { λ r. ⌜ Part 158 (λ e p. read leg (0, place) (bitOf (now (s .entry))) e p) (now (s .entry)) c n (now (words .entry)) (now (words .exit)) r ⌝ }
+// Whether the reading goes on, and there would be octets and room for a leg if nothing stood before it.
+fn is_ample(octets: usize, room: usize, n: usize, why: u64) -> bool
+    ensures { λ r. ⌜ (r ≡ true → (why ≡ 0) × (20 ≤ octets) × (octets < 2 ^ 50) × (n < 2 ^ 23) × (space 32 ≤ room)) ⌝ }
 {
-    let at = c.at;
+    if why != 0 {
+        return false;
+    }
+    if octets < AMPLE_OCTETS {
+        return false;
+    }
+    if 0x3_ffff_ffff_ffff < octets {
+        return false;
+    }
+    if 0x7f_ffff < n {
+        return false;
+    }
+    words_for(AMPLE_RECORDS) <= room
+}
+
+// The first legs, up to one that is not read at once. The octets of a leg may stand behind the window's end: whether it ended before that is asked behind it.
+fn begin_legs(s: &[u8], words: &mut [u64], n: usize, c: Cursor, legs: u64) -> Begun
+    requires { ⌜ legs ≤ 512 ⌝ }
+    ensures { λ r. ⌜ (r .legs ≤ legs) × Part (158 * r .legs) (legsOf (now (s .entry)) (r .legs)) (now (s .entry)) c n (now (words .entry)) (now (words .exit)) (record { n = r .n; c = put c (r .at) (c .why) (r .marks) }) ⌝ }
+{
+    let mut p = c.at;
     let end = c.end;
-    let marks = c.marks;
-    if !is_ample(s, words.len(), n, c) {
-        return put_value(s, words, n, c, place);
+    let why = c.why;
+    let mut marks = c.marks;
+    let octets = s.len();
+    let room = words.len();
+    let mut m = n;
+    let mut i: u64 = 0;
+    if !is_ample(octets, room, n, why) {
+        return Begun {
+            legs: i,
+            n: m,
+            at: p,
+            marks: marks,
+        };
     }
-    let m = store(words, n, LEG, 0, place, 0, at);
-    let r = read_route_information(s, words, m, at);
-    let p = r.at;
-    let k = r.n;
-    if p == 0 {
-        return put_value(s, words, n, c, place);
+    let last_bit = (octets - AMPLE_OCTETS) * 8;
+    let last_word = room - words_for(AMPLE_RECORDS);
+    while i < legs {
+        if last_bit < p || last_word < words_for(m) {
+            return Begun {
+                legs: i,
+                n: m,
+                at: p,
+                marks: marks,
+            };
+        }
+        let k = store(words, m, LEG, 0, i + 1, 0, p);
+        let r = read_route_information(s, words, k, p);
+        let q = r.at;
+        if q == 0 || end < q {
+            return Begun {
+                legs: i,
+                n: m,
+                at: p,
+                marks: marks,
+            };
+        }
+        m = r.n;
+        p = q;
+        marks = marks | r.marks;
+        i += 1;
     }
-    if end < p {
-        return put_value(s, words, n, c, place);
-    }
-    let d = Cursor {
+    Begun {
+        legs: i,
+        n: m,
         at: p,
-        end: end,
-        why: 0,
-        marks: marks | r.marks,
-    };
-    At { n: k, c: d }
+        marks: marks,
+    }
 }
 
 // The legs of a clearance, one to 128 by the schema.
@@ -102,11 +135,18 @@ pub fn read_legs(s: &[u8], words: &mut [u64], n: usize, c: Cursor) -> At
 {
     let count = size(s, c, LEGS);
     let legs = count.v;
-    let mut m = n;
-    let mut d = count.c;
-    let mut i: u64 = 0;
+    let first = count.c;
+    let b = begin_legs(s, words, n, first, legs);
+    let mut i = b.legs;
+    let mut m = b.n;
+    let mut d = Cursor {
+        at: b.at,
+        end: first.end,
+        why: first.why,
+        marks: b.marks,
+    };
     while i < legs {
-        let t = put_leg(s, words, m, d, i + 1);
+        let t = put_value(s, words, m, d, i + 1);
         m = t.n;
         d = t.c;
         i += 1;

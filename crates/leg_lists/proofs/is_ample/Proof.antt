@@ -1,6 +1,4 @@
 use mathlib.Core.Bool.{false≢true}
-use Prim.Native.Nat.{_+_, _/_}
-use lib.ListN.{length}
 use borrow.Author.Needs.{needs}
 use borrow.Author.Tests.{leb-true}
 use native.Mathlib.Omega.{arith}
@@ -22,8 +20,8 @@ returns-4 c = λ q. absurd (false≢true q)
 returns-5 : tie.Need-returns-5
 returns-5 c = λ q.
     let w = c .before in
-    let a = w .before .before .before .before .before .before .args in
-    (omega (arith, w .before .before .before .if1 .left), omega (arith, leb-true (a .c .at / 8 + 21) (length (a .s .now)) q), omega (arith, w .before .before .if2 .left), omega (arith, w .before .if3 .left), omega (arith, c .if4 .left, w .words-for .ensures))
+    let a = w .before .before .before .before .args in
+    (omega (arith, w .before .before .before .if1 .left), omega (arith, w .before .before .if2 .left), omega (arith, w .before .if3 .left), omega (arith, w .if4 .left), omega (arith, leb-true (c .words-for .result) (a .room) q, c .words-for .ensures))
 
 pub is-ample-spec : {M : Type 1} → statement M
-is-ample-spec = tie.close (tie.spec returns returns-2 returns-3 (λ c. search needs) (λ c κs. search needs) returns-4 (λ c. search needs) returns-5)
+is-ample-spec = tie.close (tie.spec returns returns-2 returns-3 returns-4 (λ c κs. search needs) returns-5)
