@@ -1,15 +1,17 @@
-// A leg of a route whose bits are all ahead: read and told at once. What it cannot read is given up: two places without the octets for both, an alternative that is not listed or not supplied, an angle of an unlisted form, a designator of nine characters.
+// A leg of a route whose bits are all ahead: read and told at once. What it cannot read is given up: two places without the octets for both, an alternative that is not listed or not supplied, an angle of an unlisted form, a designator above its range.
 ghost use Prim.Native.Nat.{_+_, _*_, _^_, _≤_, _<_};
 ghost use lib.ListN.{length};
 ghost use Rattle.records.specs.Space.{space};
+ghost use Rattle.ample_bits.specs.Ahead.{Ahead};
 ghost use Rattle.ample_readings.specs.Ample.{Ample};
 ghost use Rattle.ample_legs.specs.Route.{placesOf, routeInformation};
-use ample_angles::read_pair;
 use ample_bits::ahead;
+use ample_bits::behind;
 use ample_bits::first;
+use ample_places::BEARING;
 use ample_places::read_degrees;
 use ample_places::read_designator;
-use ample_places::read_published;
+use ample_places::read_place;
 use ample_readings::Step;
 use ample_readings::given_up;
 use cpdlc_tags::ROUTE_INFORMATION;
@@ -21,17 +23,26 @@ const INDEX: usize = 3;
 // The octets that the reading of two places with a bearing each may touch, from that of its first bit on.
 const BETWEEN_OCTETS: usize = 38;
 
-// Places with as many bearings: one place without, one with its bearing, two with a bearing each.
-fn read_places(s: &[u8], words: &mut [u64], n: usize, at: usize, bearings: usize) -> Step
-    requires { ⌜ (n < 2 ^ 25) × (space (n + 30) ≤ length (now words)) × (at < 2 ^ 55) × (at + 157 ≤ length (now s) * 8) × (at + 55 + 121 * bearings ≤ length (now s) * 8) × (bearings ≤ 2) ⌝ }
-    ensures { λ r. ⌜ Ample 30 242 (placesOf bearings) (now (s .entry)) at n (now (words .entry)) (now (words .exit)) r ⌝ }
+// Places, published or coordinates alone, with as many bearings: one place without, one with its bearing, two with a bearing each. The word of a bearing serves the next place too.
+fn read_places(
+    s: &[u8],
+    words: &mut [u64],
+    n: usize,
+    v: u64,
+    at: usize,
+    published: bool,
+    bearings: usize,
+) -> Step
+    requires { ⌜ (n < 2 ^ 25) × (space (n + 30) ≤ length (now words)) × (at < 2 ^ 55) × (at + 157 ≤ length (now s) * 8) × (at + 55 + 121 * bearings ≤ length (now s) * 8) × (bearings ≤ 2) × (Ahead (now s) at 47 v) ⌝ }
+    ensures { λ r. ⌜ Ample 30 242 (placesOf published bearings) (now (s .entry)) at n (now (words .entry)) (now (words .exit)) r ⌝ }
 {
     let mut m = n;
     let mut p = at;
     let mut marks: u64 = 0;
     let mut left = bearings;
+    let mut bits = v;
     loop {
-        let x = read_published(s, words, m, p);
+        let x = read_place(s, words, m, bits, p, published);
         let q = x.at;
         let k = x.n;
         let o = x.marks;
@@ -45,7 +56,8 @@ fn read_places(s: &[u8], words: &mut [u64], n: usize, at: usize, bearings: usize
                 marks: marks | o,
             };
         }
-        let y = read_degrees(s, words, k, q);
+        let b = ahead(s, q);
+        let y = read_degrees(words, k, b, q);
         m = y.n;
         p = y.at;
         marks = marks | (o | y.marks);
@@ -57,6 +69,7 @@ fn read_places(s: &[u8], words: &mut [u64], n: usize, at: usize, bearings: usize
                 marks: marks,
             };
         }
+        bits = behind(b, BEARING);
     }
 }
 
@@ -65,23 +78,23 @@ pub fn read_route_information(s: &[u8], words: &mut [u64], n: usize, at: usize) 
     requires { ⌜ (n < 2 ^ 24) × (space (n + 31) ≤ length (now words)) × (at < 2 ^ 54) × (at + 160 ≤ length (now s) * 8) ⌝ }
     ensures { λ r. ⌜ Ample 31 245 routeInformation (now (s .entry)) at n (now (words .entry)) (now (words .exit)) r ⌝ }
 {
-    let index = first(ahead(s, at), INDEX);
+    let v = ahead(s, at);
+    let index = first(v, INDEX);
+    let b = behind(v, INDEX);
     let m = store(words, n, ROUTE_INFORMATION, 0, index, 0, at);
     let p = at + INDEX;
-    if index == 1 {
-        return read_pair(s, words, m, p);
-    }
     if index == 4 {
-        return read_designator(s, words, m, p);
+        return read_designator(words, m, b, p);
     }
     if 2 < index {
         return given_up();
     }
+    let mut bearings: usize = 0;
     if index == 2 {
         if s.len() < p / 8 + BETWEEN_OCTETS {
             return given_up();
         }
+        bearings = 2;
     }
-    // 0 or 2, and so many bearings
-    read_places(s, words, m, p, index as usize)
+    read_places(s, words, m, b, p, index != 1, bearings)
 }

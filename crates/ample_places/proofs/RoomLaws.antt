@@ -12,15 +12,8 @@ use Rattle.records.proofs.Sizes.{space-grows}
 abbrev pub Fits : (N c M l room end n at : ℕ) → Type 0
 Fits N c M l room end n at = (n < N) × (space (n + c) ≤ room) × (at < M) × (at + l ≤ end)
 
-module _ {c l N N′ M M′ end n at : ℕ} where
-  -- d bits further on
-  pub fits-ahead : {room p : ℕ} (b d k : ℕ) → Fits N c M l room end n at → p ≤ at + d → N ≤ N′ → b ≤ c → M + d ≤ M′ → d + k ≤ l → Fits N′ b M′ k room end n p
-  fits-ahead b d k f q i j u v =
-      let h : n + b ≤ n + c = omega arith in
-      (omega (arith, f .0), omega (arith, f .1, space-grows h), omega (arith, f .2), omega (arith, f .3))
-
-  -- and a records
-  pub fits-on : {a m p : ℕ} {w w′ : List ℕ} {R : List Rec} (b d k : ℕ) → Fits N c M l (length w) end n at → Told a w w′ n m R → p ≤ at + d → N + a ≤ N′ → a + b ≤ c → M + d ≤ M′ → d + k ≤ l → Fits N′ b M′ k (length w′) end m p
-  fits-on {m = m} b d k f t q i j u v =
-      let h : m + b ≤ n + c = omega (arith, t .few) in
-      (omega (arith, f .0, t .few), omega (arith, f .1, t .room, space-grows h), omega (arith, f .2), omega (arith, f .3))
+-- behind a records and d bits
+pub fits-on : {c l N N′ M M′ end n at a m p : ℕ} {w w′ : List ℕ} {R : List Rec} (b d k : ℕ) → Fits N c M l (length w) end n at → Told a w w′ n m R → p ≤ at + d → N + a ≤ N′ → a + b ≤ c → M + d ≤ M′ → d + k ≤ l → Fits N′ b M′ k (length w′) end m p
+fits-on {c} {n = n} {m = m} b d k f t q i j u v =
+    let h : m + b ≤ n + c = omega (arith, t .few) in
+    (omega (arith, f .0, t .few), omega (arith, f .1, t .room, space-grows h), omega (arith, f .2), omega (arith, f .3))

@@ -1,6 +1,7 @@
-// Named and published places, bearings and designators whose bits are all ahead: read and told at once.
+// Named and published places, bearings and designators whose bits are all ahead: read and told at once, from a word that the caller hands on as far as it goes.
 ghost use mathlib.Core.Path.{_≡_};
-ghost use Prim.Native.Nat.{_+_, _-_, _*_, _^_, _≤_, _<_};
+ghost use mathlib.Core.List.{List};
+ghost use Prim.Native.Nat.{ℕ, _+_, _-_, _*_, _/_, _^_, _≤_, _<_};
 ghost use lib.ListN.{length};
 ghost use Rattle.x691.specs.Bits.{bitOf};
 ghost use Rattle.x691.specs.Encoding.{width};
@@ -8,7 +9,9 @@ ghost use Rattle.atn.specs.Messages as message;
 ghost use Rattle.atn.specs.Reading.{pack, units};
 ghost use Rattle.records.specs.Space.{space};
 ghost use Rattle.records.specs.Told.{Told};
-ghost use Rattle.ample_readings.specs.Ample.{Done, Ample};
+ghost use Rattle.ample_bits.specs.Ahead.{Ahead};
+ghost use Rattle.ample_readings.specs.Ample.{Ample, Fixed};
+ghost use Rattle.ample_places.specs.Place.{placeOf, Named};
 use ample_angles::read_pair;
 use ample_bits::ahead;
 use ample_bits::behind;
@@ -16,6 +19,7 @@ use ample_bits::first;
 use ample_readings::Step;
 use ample_readings::above;
 use ample_readings::given_up;
+use ample_readings::read_ranged;
 use cpdlc_tags::DEGREES;
 use cpdlc_tags::DEGREES_NUMBER;
 use cpdlc_tags::PUBLISHED;
@@ -32,65 +36,72 @@ use tell::spread::top_sevens;
 // The bits of a character.
 const CHARACTER: usize = 7;
 
-// The characters of one record are at most as many.
-const RECORD: usize = 8;
+// The characters of a name that the word of a place has at least: it has 47 bits, less five for kind, presence and size.
+const AT_HAND: usize = 6;
 
 // The bits of the kind of a place or a bearing, of which there are two.
 const KIND: usize = 1;
 
-// A text of at most eight characters, from `at` on, of a field that starts at `from`: one record.
-fn short_text(
-    s: &[u8],
-    words: &mut [u64],
-    n: usize,
-    tag: u64,
-    from: usize,
-    at: usize,
-    len: usize,
-) -> usize
-    requires { ⌜ (n < 2 ^ 30) × (space (n + 1) ≤ length (now words)) × (at < 2 ^ 60) × (at + 64 ≤ length (now s) * 8) × (1 ≤ len) × (len ≤ 8) ⌝ }
-    ensures { λ m. ⌜ Told 1 (now (words .entry)) (now (words .exit)) n m (pack tag 0 from (units (bitOf (now (s .entry))) 7 at len)) ⌝ }
+// The bits of a bearing.
+pub const BEARING: usize = 10;
+
+// A text of at most eight characters, at the top of a word, of a field that starts at `from`: one record.
+fn short_text(words: &mut [u64], n: usize, v: u64, tag: u64, from: usize, len: usize) -> usize
+    requires { ⌜ (n < 2 ^ 30) × (space (n + 1) ≤ length (now words)) × (1 ≤ len) × (len ≤ 8) ⌝ }
+    ensures { λ m. ⌜ ((s : List ℕ) (at : ℕ) → Ahead s at (len * 7) v → at < 2 ^ 60 → at + len * 7 ≤ length s * 8 → Told 1 (now (words .entry)) (now (words .exit)) n m (pack tag 0 from (units (bitOf s) 7 at len))) ⌝ }
 {
-    let v = first(ahead(s, at), len * CHARACTER);
-    let x = top_sevens(v, len);
+    let x = top_sevens(first(v, len * CHARACTER), len);
     store(words, n, tag, 0, x, len as u64, from)
 }
 
-// A name by the ends and the width of its size, and its coordinates, which may be absent.
+// The characters of a text from `at` on, at the top of a word: of the one at hand, or a new one where they are more than that has.
+fn text_ahead(s: &[u8], v: u64, at: usize, len: usize) -> u64
+    requires { ⌜ (Ahead (now s) at 42 v) × (at / 8 + 8 ≤ length (now s)) × (len ≤ 8) ⌝ }
+    ensures { λ r. ⌜ Ahead (now (s .entry)) at (len * 7) r ⌝ }
+{
+    if len <= AT_HAND {
+        return v;
+    }
+    ahead(s, at)
+}
+
+// How far a place was read before its coordinates: these follow, unless `has` is 0.
+struct Name {
+    at: usize,
+    n: usize,
+    marks: u64,
+    has: u64,
+}
+
+// Whether coordinates follow, and a name by the ends and the width of its size.
 fn read_named(
     s: &[u8],
     words: &mut [u64],
     n: usize,
+    v: u64,
     at: usize,
     tag: u64,
     least: usize,
     most: u64,
     wide: usize,
-) -> Step
-    requires { ⌜ (n < 2 ^ 28) × (space (n + 12) ≤ length (now words)) × (at < 2 ^ 58) × (at + 156 ≤ length (now s) * 8) × (least ≡ 1) × (width (most - 1) ≡ wide) × (1 ≤ wide) × (wide ≤ 3) ⌝ }
-    ensures { λ r. ⌜ Ample 12 110 (message.named tag most) (now (s .entry)) at n (now (words .entry)) (now (words .exit)) r ⌝ }
+) -> Name
+    requires { ⌜ (n < 2 ^ 30) × (space (n + 1) ≤ length (now words)) × (at < 2 ^ 58) × (at + 68 ≤ length (now s) * 8) × (Ahead (now s) at 46 v) × (least ≡ 1) × (width (most - 1) ≡ wide) × (1 ≤ wide) × (wide ≤ 3) ⌝ }
+    ensures { λ r. ⌜ Named 1 60 (message.named tag most) (now (s .entry)) at n (now (words .entry)) (now (words .exit)) r ⌝ }
 {
-    let v = ahead(s, at);
     let has = first(v, 1);
-    let raw = first(behind(v, 1), wide);
+    let b = behind(v, 1);
+    let raw = first(b, wide);
     let size = raw as usize + least;
     let from = at + 1;
     let p = from + wide;
-    let m = short_text(s, words, n, tag, from, p, size);
-    let q = p + size * CHARACTER;
+    let text = text_ahead(s, behind(b, wide), p, size);
+    let m = short_text(words, n, text, tag, from, size);
     let marks = above(size as u64, most);
-    if has == 0 {
-        return Step {
-            at: q,
-            n: m,
-            marks: marks,
-        };
-    }
-    let x = read_pair(s, words, m, q);
-    Step {
-        at: x.at,
-        n: x.n,
-        marks: marks | x.marks,
+    Name {
+        at: p + size * CHARACTER,
+        n: m,
+        marks: marks,
+        has: has,
     }
 }
 
@@ -124,54 +135,83 @@ fn naming_of(kind: u64) -> Naming
     }
 }
 
-pub fn read_published(s: &[u8], words: &mut [u64], n: usize, at: usize) -> Step
-    requires { ⌜ (n < 2 ^ 27) × (space (n + 13) ≤ length (now words)) × (at < 2 ^ 57) × (at + 157 ≤ length (now s) * 8) ⌝ }
-    ensures { λ r. ⌜ Ample 13 111 message.published (now (s .entry)) at n (now (words .entry)) (now (words .exit)) r ⌝ }
+// A published place up to its coordinates; before coordinates alone there is nothing to read.
+fn read_name(s: &[u8], words: &mut [u64], n: usize, v: u64, at: usize, published: bool) -> Name
+    requires { ⌜ (n < 2 ^ 29) × (space (n + 2) ≤ length (now words)) × (at < 2 ^ 57) × (at + 69 ≤ length (now s) * 8) × (Ahead (now s) at 47 v) ⌝ }
+    ensures { λ r. ⌜ Named 2 61 (placeOf published) (now (s .entry)) at n (now (words .entry)) (now (words .exit)) r ⌝ }
 {
-    let kind = first(ahead(s, at), KIND);
+    if !published {
+        return Name {
+            at: at,
+            n: n,
+            marks: 0,
+            has: 1,
+        };
+    }
+    let kind = first(v, KIND);
     let m = store(words, n, PUBLISHED, 0, kind, 0, at);
     let p = at + KIND;
     let by = naming_of(kind);
-    read_named(s, words, m, p, by.tag, by.least, by.most, by.wide)
+    read_named(
+        s,
+        words,
+        m,
+        behind(v, KIND),
+        p,
+        by.tag,
+        by.least,
+        by.most,
+        by.wide,
+    )
+}
+
+// A published place, or coordinates alone.
+pub fn read_place(s: &[u8], words: &mut [u64], n: usize, v: u64, at: usize, published: bool) -> Step
+    requires { ⌜ (n < 2 ^ 27) × (space (n + 13) ≤ length (now words)) × (at < 2 ^ 57) × (at + 157 ≤ length (now s) * 8) × (Ahead (now s) at 47 v) ⌝ }
+    ensures { λ r. ⌜ Ample 13 111 (placeOf published) (now (s .entry)) at n (now (words .entry)) (now (words .exit)) r ⌝ }
+{
+    let x = read_name(s, words, n, v, at, published);
+    if x.has == 0 {
+        return Step {
+            at: x.at,
+            n: x.n,
+            marks: x.marks,
+        };
+    }
+    let y = read_pair(s, words, x.n, x.at);
+    Step {
+        at: y.at,
+        n: y.n,
+        marks: x.marks | y.marks,
+    }
 }
 
 // Both kinds of degrees have one range.
-pub fn read_degrees(s: &[u8], words: &mut [u64], n: usize, at: usize) -> Step
-    requires { ⌜ (n < 2 ^ 30) × (space (n + 2) ≤ length (now words)) × (at < 2 ^ 60) × (at + 64 ≤ length (now s) * 8) ⌝ }
-    ensures { λ r. ⌜ Done 2 10 message.degrees (now (s .entry)) at n (now (words .entry)) (now (words .exit)) r ⌝ }
+pub fn read_degrees(words: &mut [u64], n: usize, v: u64, at: usize) -> Step
+    requires { ⌜ (n < 2 ^ 30) × (space (n + 2) ≤ length (now words)) × (at < 2 ^ 60) ⌝ }
+    ensures { λ r. ⌜ Fixed 2 10 message.degrees v at n (now (words .entry)) (now (words .exit)) r ⌝ }
 {
-    let v = ahead(s, at);
     let kind = first(v, KIND);
-    let wide = DEGREES_0.width();
-    let raw = first(behind(v, KIND), wide);
-    let p = at + KIND;
     let m = store(words, n, DEGREES, 0, kind, 0, at);
-    let k = store(words, m, DEGREES_NUMBER, 0, DEGREES_0.lo + raw, 0, p);
-    let marks = above(raw, DEGREES_0.extent());
-    Step {
-        at: p + wide,
-        n: k,
-        marks: marks,
-    }
+    let p = at + KIND;
+    read_ranged(words, m, behind(v, KIND), p, DEGREES_NUMBER, DEGREES_0)
 }
 
-// The designator of a route. One of nine characters, which is above its range and takes two records, is given up.
-pub fn read_designator(s: &[u8], words: &mut [u64], n: usize, at: usize) -> Step
-    requires { ⌜ (n < 2 ^ 30) × (space (n + 1) ≤ length (now words)) × (at < 2 ^ 59) × (at + 72 ≤ length (now s) * 8) ⌝ }
-    ensures { λ r. ⌜ Ample 1 59 (message.ia5 101 2 7) (now (s .entry)) at n (now (words .entry)) (now (words .exit)) r ⌝ }
+// The designator of a route. One above its range is given up.
+pub fn read_designator(words: &mut [u64], n: usize, v: u64, at: usize) -> Step
+    requires { ⌜ (n < 2 ^ 30) × (space (n + 1) ≤ length (now words)) × (at < 2 ^ 59) ⌝ }
+    ensures { λ r. ⌜ ((s : List ℕ) → Ahead s at 52 v → at + 52 ≤ length s * 8 → Ample 1 52 (message.ia5 101 2 7) s at n (now (words .entry)) (now (words .exit)) r) ⌝ }
 {
     let wide = ROUTE_SIZE.width();
-    let raw = first(ahead(s, at), wide);
-    let size = raw as usize + ROUTE_SIZE.lo as usize;
-    if RECORD < size {
+    let size = first(v, wide) + ROUTE_SIZE.lo;
+    if ROUTE_SIZE.hi < size {
         return given_up();
     }
-    let p = at + wide;
-    let m = short_text(s, words, n, ROUTE_DESIGNATOR, at, p, size);
-    let marks = above(size as u64, ROUTE_SIZE.hi);
+    let len = size as usize;
+    let m = short_text(words, n, behind(v, wide), ROUTE_DESIGNATOR, at, len);
     Step {
-        at: p + size * CHARACTER,
+        at: at + wide + len * CHARACTER,
         n: m,
-        marks: marks,
+        marks: 0,
     }
 }
