@@ -1,9 +1,11 @@
 -- What is cut off a word that has bits at its top.
-use mathlib.Core.Path.{_≡_, sym, ap, _∙_}
+use mathlib.Core.Path.{_≡_, refl, sym, ap, _∙_}
 use mathlib.Core.List.{List}
-use Prim.Native.Nat.{ℕ, _+_, _-_, _*_, _/_, _%_, _^_, _≤_}
+use Prim.Native.Nat.{ℕ, zero, suc, _+_, _-_, _*_, _/_, _%_, _^_, _≤_}
+use native.Mathlib.Nat.{add-zero, zero-mul, zero-div, mul-mod-left}
 use native.Mathlib.Omega.{arith}
-use lib.Pow.{shr-shr, shl-shr, field, high, low}
+use lib.ListN.{length, List·getD-eq-default}
+use lib.Pow.{mod-pow-add, shr-shr, shl-shr, field, high, low}
 use Rattle.x691.specs.Bits.{bitOf, uint}
 use Rattle.per.proofs.Laws.{uint-below, uint-split}
 use Rattle.ample_bits.specs.Ahead.{Ahead}
@@ -41,9 +43,40 @@ ahead-next k a e f h = rw (e, f) (behind-ahead a k h)
 pub ahead-fewer : {s : List ℕ} {p j v : ℕ} (k : ℕ) → Ahead s p j v → k ≤ j → Ahead s p k v
 ahead-fewer k a h = record { most = omega (arith, a .most); spelt = first-spelt a k h }
 
--- of eight whole octets, behind the first o bits
-pub octets-ahead : (s : List ℕ) (i o : ℕ) {v : ℕ} → o ≤ 7 → v ≡ uint (bitOf s) (8 * i) 64 → Ahead s (8 * i + o) 57 (v * 2 ^ o % 2 ^ 64)
-octets-ahead s i o {v} h q = ahead-fewer 57 (behind-ahead (record { most = omega arith; spelt = all ∙ q }) o (omega arith)) (omega arith)
+-- a word that is 64 bits as a number
+whole : {s : List ℕ} {p v : ℕ} → v ≡ uint (bitOf s) p 64 → Ahead s p 64 v
+whole {v = v} q = record { most = omega arith; spelt = all ∙ q }
   where
     all : v / 2 ^ (64 - 64) ≡ v
     all = omega arith
+
+-- of eight whole octets, behind the first o bits
+pub octets-ahead : (s : List ℕ) (i o : ℕ) {v : ℕ} → o ≤ 7 → v ≡ uint (bitOf s) (8 * i) 64 → Ahead s (8 * i + o) 57 (v * 2 ^ o % 2 ^ 64)
+octets-ahead s i o h q = ahead-fewer 57 (behind-ahead (whole q) o (omega arith)) (omega arith)
+
+---------------------------------------------------------------- behind the end
+
+bit-behind : (s : List ℕ) (p : ℕ) → length s * 8 ≤ p → bitOf s p ≡ 0
+unfolding bitOf
+bit-behind s p h = rw (List·getD-eq-default s 0 {n = p / 8} (omega arith), zero-div (2 ^ (7 - p % 8)))
+
+none-behind : (s : List ℕ) (p n : ℕ) → length s * 8 ≤ p → uint (bitOf s) p n ≡ 0
+unfolding uint
+none-behind s p zero h = refl
+none-behind s p (suc n) h = rw (bit-behind s p h, none-behind s (suc p) n (omega arith), zero-mul (2 ^ n))
+
+-- a word without bits
+pub ahead-none : (s : List ℕ) (p : ℕ) → length s * 8 ≤ p → Ahead s p 57 0
+ahead-none s p h = record { most = omega arith; spelt = zero-div (2 ^ 7) ∙ sym (none-behind s p 57 h) }
+
+-- the last 64 bits of a frame less the first d, and behind them the d that it has not
+pub ahead-edge : (s : List ℕ) (p d : ℕ) {v : ℕ} → v ≡ uint (bitOf s) p 64 → length s * 8 ≤ p + 64 → d ≤ 64 → Ahead s (p + d) 64 (v * 2 ^ d % 2 ^ 64)
+ahead-edge s p d {v} q l h =
+    let b = bitOf s in
+    let m : ℕ = 64 - d in
+    let e : 64 ≡ d + m = omega arith in
+    let f : 64 ≡ m + d = omega arith in
+    let w : v % 2 ^ m ≡ uint b (p + d) m = ap (λ (x : ℕ). x % 2 ^ m) (q ∙ ap (λ (x : ℕ). uint b p x) e ∙ uint-split b p d m) ∙ low (uint b p d) m (uint-below s (p + d) m) in
+    let up : v * 2 ^ d % 2 ^ 64 ≡ v % 2 ^ m * 2 ^ d = ap (λ (x : ℕ). v * 2 ^ d % 2 ^ x) f ∙ mod-pow-add (v * 2 ^ d) m d ∙ rw (shl-shr v d, mul-mod-left v (2 ^ d)) (add-zero _) in
+    let all : uint b (p + d) 64 ≡ uint b (p + d) m * 2 ^ d = ap (λ (x : ℕ). uint b (p + d) x) f ∙ uint-split b (p + d) m d ∙ rw (none-behind s (p + d + m) d (omega arith)) (add-zero _) in
+    whole (up ∙ rw w (sym all))
