@@ -171,12 +171,13 @@ fn bounds_of(left: u64) -> Bounds
     }
 }
 
-// Latitude and longitude, each of which may be absent.
+// Latitude and longitude, each of which may be absent: 50 bits at most, so that one word has them all.
 pub fn read_pair(s: &[u8], words: &mut [u64], n: usize, at: usize) -> Step
     requires { ⌜ (n < 2 ^ 29) × (space (n + 11) ≤ length (now words)) × (at < 2 ^ 59) × (at + 96 ≤ length (now s) * 8) ⌝ }
     ensures { λ r. ⌜ Ample 11 50 message.latlon (now (s .entry)) at n (now (words .entry)) (now (words .exit)) r ⌝ }
 {
-    let has = first(ahead(s, at), 2);
+    let word = ahead(s, at);
+    let has = first(word, 2);
     let m = store(words, n, COORDINATES, 0, 0, 0, at);
     if has == 0 {
         return Step {
@@ -185,13 +186,13 @@ pub fn read_pair(s: &[u8], words: &mut [u64], n: usize, at: usize) -> Step
             marks: 0,
         };
     }
+    let mut v = behind(word, 2);
     let mut p = at + 2;
     let mut k = m;
     let mut marks: u64 = 0;
     let mut left = has;
     loop {
         let by = bounds_of(left);
-        let v = ahead(s, p);
         let x = angle(
             words,
             k,
@@ -210,12 +211,13 @@ pub fn read_pair(s: &[u8], words: &mut [u64], n: usize, at: usize) -> Step
                 marks: marks | x.marks,
             };
         }
+        if x.at == 0 {
+            return x;
+        }
+        v = behind(v, x.at - p);
         p = x.at;
         k = x.n;
         marks = x.marks;
         left = 1;
-        if p == 0 {
-            return x;
-        }
     }
 }
