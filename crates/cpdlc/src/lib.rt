@@ -1,4 +1,4 @@
-// CPDLC: `parse_pdus` and `parse_apdu`. A frame is read into spare words first, so that a refusal leaves the lent ones and the number of records is known before any is written.
+// CPDLC: `parse_pdus` and `parse_apdu`. A frame with a message is read into spare words first, so that a refusal leaves the lent ones and the number of records is known before any is written.
 ghost use mathlib.Core.Path.{_≡_};
 ghost use Prim.Native.Nat.{_+_, _*_, _≤_};
 ghost use lib.ListN.{length};
@@ -8,6 +8,8 @@ ghost use Rattle.sends.specs.Sends.{Sends};
 use answers::Answer;
 use answers::LONGEST_FRAME;
 use answers::refused;
+use brief_frames::bare::is_bare;
+use brief_frames::parse_brief;
 use cpdlc_frames::answer_frame;
 use cpdlc_frames::try_any;
 use cpdlc_frames::try_frame;
@@ -21,8 +23,10 @@ use verdicts::Verdict;
 use verdicts::after_bad;
 use verdicts::after_out;
 
-// Three records.
-const BRIEF_SPARE: usize = 15;
+// A frame of fewer octets seldom has more records than these words hold, eight.
+const SHORT_FRAME: usize = 4;
+
+const SHORT_SPARE: usize = 40;
 
 // A string of so many bits seldom has more records than these words hold, sixteen.
 const FEW_BITS: usize = 76;
@@ -51,10 +55,13 @@ pub fn parse_pdus(frame: &[u8], direction: u64, down: &[u8], up: &[u8], words: &
     if send.at != 0 {
         return parse_send(frame, direction, send, down, up, words);
     }
-    if is_brief(frame, direction) {
-        let mut brief = [0u64; BRIEF_SPARE];
-        let v = try_frame(frame, &mut brief, direction, down, up);
-        return answer_frame(frame, words, &brief, direction, down, up, v);
+    if is_bare(frame, direction) {
+        return parse_brief(frame, direction, words);
+    }
+    if frame.len() < SHORT_FRAME {
+        let mut short = [0u64; SHORT_SPARE];
+        let v = try_frame(frame, &mut short, direction, down, up);
+        return answer_frame(frame, words, &short, direction, down, up, v);
     }
     let mut spare = [0u64; CPDLC_SPARE];
     let v = try_frame(frame, &mut spare, direction, down, up);
@@ -133,18 +140,4 @@ pub fn parse_apdu(frame: &[u8], down: &[u8], up: &[u8], words: &mut [u64]) -> An
         return answer_frame(frame, words, &spare, 1, down, up, x);
     }
     answer_frame(frame, words, &spare, 0, down, up, v)
-}
-
-// Whether the fewest spare words will do: the frame is too short for a message, or there are three records at most, since its extension bit is set
-// or its choice names neither a start, a send nor a forward message. Nothing but the time rests on it, since a frame whose
-// records do not fit is read again.
-fn is_brief(frame: &[u8], direction: u64) -> bool {
-    if frame.len() < 4 {
-        return true;
-    }
-    let first = frame[0];
-    if direction == 0 {
-        return first < 0x40 || 0x80 <= first;
-    }
-    first < 0x20 || 0x50 <= first
 }

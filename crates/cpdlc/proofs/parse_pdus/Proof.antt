@@ -41,30 +41,37 @@ parse-send-requires c κs =
 returns-4 : tie.Need-returns-4
 returns-4 c = record { is = read (c .before .before .before .before .before .before .before) (c .before .before .parse-send .ensures .is) }
 
-answer-frame-requires : tie.Need-answer-frame-requires
-answer-frame-requires c κs =
-    let t = tested (c .before .before .before .before .before .before .before .before .before .before) in
-    (t .0, t .1, t .2, t .3, t .4, t .5, omega (arith, c .before .before .before .try-frame .ensures .few))
+parse-brief-requires : tie.Need-parse-brief-requires
+parse-brief-requires c κs = let t = tested (c .before .before .before .before .before .before) in (t .0, t .5, c .before .before .is-bare .ensures (c .before .if5 .taken))
 
 returns-5 : tie.Need-returns-5
-returns-5 c =
-    let tried = c .before .before .before .before .before .before .try-frame .ensures in
-    record { is = read (c .before .before .before .before .before .before .before .before .before .before .before .before .before) (c .before .before .answer-frame .ensures (tried .keeps) _ (tried .is) (follows-same _) .is) }
+returns-5 c = record { is = read (c .before .before .before .before .before .before .before .before .before) (c .before .before .parse-brief .ensures _ _ .is) }
 
-answer-frame-requires-2 : tie.Need-answer-frame-requires-2
-answer-frame-requires-2 c κs =
-    let t = tested (c .before .before .before .before .before .before .before .before .before .before) in
-    (t .0, t .1, t .2, t .3, t .4, t .5, omega (arith, c .before .before .before .try-frame2 .ensures .few))
+answer-frame-requires : tie.Need-answer-frame-requires
+answer-frame-requires c κs =
+    let t = tested (c .before .before .before .before .before .before .before .before .before .before .before) in
+    (t .0, t .1, t .2, t .3, t .4, t .5, omega (arith, c .before .before .before .try-frame .ensures .few))
 
 returns-6 : tie.Need-returns-6
 returns-6 c =
+    let tried = c .before .before .before .before .before .before .try-frame .ensures in
+    record { is = read (c .before .before .before .before .before .before .before .before .before .before .before .before .before .before) (c .before .before .answer-frame .ensures (tried .keeps) _ (tried .is) (follows-same _) .is) }
+
+answer-frame-requires-2 : tie.Need-answer-frame-requires-2
+answer-frame-requires-2 c κs =
+    let t = tested (c .before .before .before .before .before .before .before .before .before .before .before) in
+    (t .0, t .1, t .2, t .3, t .4, t .5, omega (arith, c .before .before .before .try-frame2 .ensures .few))
+
+returns-7 : tie.Need-returns-7
+returns-7 c =
     let tried = c .before .before .before .before .before .before .try-frame2 .ensures in
-    record { is = read (c .before .before .before .before .before .before .before .before .before .before .before .before .before) (c .before .before .answer-frame2 .ensures (tried .keeps) _ (tried .is) (follows-same _) .is) }
+    record { is = read (c .before .before .before .before .before .before .before .before .before .before .before .before .before .before) (c .before .before .answer-frame2 .ensures (tried .keeps) _ (tried .is) (follows-same _) .is) }
 
 pub parse-pdus-spec : {M : Type 1} → statement M
 parse-pdus-spec =
     tie.close
     (tie.spec
-    (λ c κs. search needs) returns (λ c κs. search needs) (λ c κs. search needs) returns-2 (λ c κs. search needs) returns-3 (λ c κs. tested c .5) parse-send-requires (λ c. search needs) returns-4 (λ c κs. search needs) (λ c. search needs) (λ c κs. tested (c .before .before .before .before .before .before))
-    (λ c. search needs) answer-frame-requires (λ c. search needs) returns-5
-    (λ c. search needs) (λ c κs. tested (c .before .before .before .before .before .before)) (λ c. search needs) answer-frame-requires-2 (λ c. search needs) returns-6)
+    (λ c κs. search needs) returns (λ c κs. search needs) (λ c κs. search needs) returns-2 (λ c κs. search needs) returns-3 (λ c κs. tested c .5) parse-send-requires (λ c. search needs) returns-4
+    (λ c κs. tested (c .before .before .before) .5) parse-brief-requires (λ c. search needs) returns-5 (λ c. search needs) (λ c κs. tested (c .before .before .before .before .before .before .before))
+    (λ c. search needs) answer-frame-requires (λ c. search needs) returns-6
+    (λ c. search needs) (λ c κs. tested (c .before .before .before .before .before .before .before)) (λ c. search needs) answer-frame-requires-2 (λ c. search needs) returns-7)

@@ -1,0 +1,4 @@
+pub mod HeadLaws
+pub mod PartLaws
+pub mod FrameLaws
+pub mod BriefLaws
