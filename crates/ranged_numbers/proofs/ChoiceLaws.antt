@@ -38,7 +38,7 @@ takes-unlisted t fs {s} {c} {d} {T} g p e q =
     }
 
 -- an index below n is read by its row
-row-read : (t k n i : ℕ) (fs : Alts) (x : Ctx) (b : ℕ → ℕ) (e p : ℕ) → i < n → readChoice (rowsThen t k n fs) i x b e p ≡ read (num t (lowest (k + i)) (highest (k + i))) x b e p
+pub row-read : (t k n i : ℕ) (fs : Alts) (x : Ctx) (b : ℕ → ℕ) (e p : ℕ) → i < n → readChoice (rowsThen t k n fs) i x b e p ≡ read (num t (lowest (k + i)) (highest (k + i))) x b e p
 unfolding readChoice
 row-read t k zero i fs x b e p h = absurd (omega arith)
 row-read t k (suc n) zero fs x b e p h = rw (add-zero k)

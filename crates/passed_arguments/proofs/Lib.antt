@@ -1,0 +1,3 @@
+pub mod PassedLaws
+pub mod PlaceLaws
+pub mod ArgumentLaws
