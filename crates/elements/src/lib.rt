@@ -13,6 +13,8 @@ use records::emit;
 use runs::At;
 use tell_arguments::tell_argument;
 
+pub mod unlisted; // unlisted.rt: whether an element is outside the table
+
 // The argument of the element number i, by the byte of the table.
 fn read_told_argument(s: &[u8], words: &mut [u64], x: At, byte: u8, i: u64) -> At
     requires { ⌜ x .n < 2 ^ 26 ⌝ }

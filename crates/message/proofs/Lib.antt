@@ -1,2 +1,3 @@
 pub mod DataLaws
 pub mod AmpleHeader
+pub mod UnlistedLaws
