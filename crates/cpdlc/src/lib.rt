@@ -1,8 +1,11 @@
 // CPDLC: `parse_pdus` and `parse_apdu`. A frame with a message is read into spare words first, so that a refusal leaves the lent ones and the number of records is known before any is written.
 ghost use mathlib.Core.Path.{_≡_};
-ghost use Prim.Native.Nat.{_+_, _*_, _≤_};
+ghost use mathlib.Core.Bool.{true};
+ghost use mathlib.Core.List.{List};
+ghost use Prim.Native.Nat.{ℕ, _+_, _*_, _≤_};
 ghost use lib.ListN.{length};
 ghost use Rattle.atn.specs.Entries.{parse-pdus, parse-apdu, pdus, readFrame, settle};
+ghost use Rattle.answers.specs.declared.Answer.the-variants.{Refused};
 ghost use Rattle.answers.specs.Says.{Says};
 ghost use Rattle.sends.specs.Sends.{Sends};
 use answers::Answer;
@@ -15,6 +18,7 @@ use cpdlc_frames::try_any;
 use cpdlc_frames::try_frame;
 use cpdlc_frames::try_send;
 use lent_tables::tables_fit;
+use message::unlisted::has_unlisted;
 use per::units::Octets;
 use sends::Send;
 use sends::find_send;
@@ -68,7 +72,7 @@ pub fn parse_pdus(frame: &[u8], direction: u64, down: &[u8], up: &[u8], words: &
     answer_frame(frame, words, &spare, direction, down, up, v)
 }
 
-// A send. Where its string does not end in the frame it is refused before spare words are cleared.
+// A send. Where its string does not end in the frame, or its message names an element outside the table, it is refused before spare words are cleared.
 fn parse_send(
     frame: &[u8],
     direction: u64,
@@ -84,6 +88,9 @@ fn parse_send(
     if left < send.count {
         return refused(4, send.at, 0, send.count - left);
     }
+    if names_unlisted(frame, direction, send, down, up) {
+        return refused(5, send.at + send.count, 0, 0);
+    }
     if send.count <= FEW_BITS {
         let mut few = [0u64; FEW_SPARE];
         let v = try_send(frame, &mut few, direction, send, down, up);
@@ -98,6 +105,21 @@ fn parse_send(
     let mut spare = [0u64; CPDLC_SPARE];
     let v = try_send(frame, &mut spare, direction, send, down, up);
     answer_frame(frame, words, &spare, direction, down, up, v)
+}
+
+// Whether the message of a send that holds its string names an element outside the table of its direction: then it is badly formed. Of a long one, which is seldom so, this is not asked.
+fn names_unlisted(frame: &[u8], direction: u64, send: Send, down: &[u8], up: &[u8]) -> bool
+    requires { ⌜ (length (now frame) ≤ 65536) × (1 ≤ length (now down)) × (length (now down) ≤ 256) × (1 ≤ length (now up)) × (length (now up) ≤ 256) × (direction ≤ 1) × Sends direction (now frame) send × (send .at + send .count ≤ length (now frame) * 8) ⌝ }
+    ensures { λ r. ⌜ (r ≡ true → (w : List ℕ) → Says (Refused 5 (send .at + send .count) 0 0) w (settle (readFrame (pdus direction (now (down .entry)) (now (up .entry))) (now (frame .entry))) w)) ⌝ }
+{
+    let end = send.at + send.count;
+    if MANY_BITS <= send.count {
+        return false;
+    }
+    if direction == 0 {
+        return has_unlisted(frame, send.at, end, down);
+    }
+    has_unlisted(frame, send.at, end, up)
 }
 
 // The same with many spare words. It is called twice so that it stays a function of its own, and other frames do without its stack.

@@ -20,8 +20,11 @@ use Rattle.runs.specs.declared.At.{At}
 use Rattle.runs.specs.Runs.{Runs}
 use Rattle.pdus.specs.Pdus.{pduAt}
 use Rattle.sends.specs.declared.Send.{Send}
-use Rattle.sends.specs.Sends.{Sends}
+use Rattle.sends.specs.Sends.{Sends, tableOf}
+use Rattle.elements.specs.Unlisted.{Fails}
+use Rattle.message.specs.Data.{messageAt}
 use Rattle.sends.proofs.SendLaws.{send-lost}
+use Rattle.sends.proofs.UnlistedLaws.{send-unlisted}
 use Rattle.verdicts.specs.declared.Verdict.{Verdict}
 use Rattle.verdicts.specs.Verdicts.{verdictOf, Tells, Kept, Follows}
 use Rattle.cpdlc_frames.proofs.ReadingLaws.{begin, begin-inside, ran-tells, tried-refused}
@@ -75,3 +78,10 @@ says-lost d down up s w send {k} small one x l q =
     let number : (4 + 16 * k) % 16 ≡ 4 = omega arith in
     let lacked : (4 + 16 * k) / 16 ≡ k = omega arith in
     rw (number, lacked) at (rw (sym q) at (says-refused {w = w} (readFrame (pdus d down up) s) (tried .is) (λ z. omega arith) (λ z. omega arith)))
+
+-- a send whose message names an element outside the table is refused
+pub says-unlisted : (d : ℕ) (down up s w : List ℕ) (send : Send) {table : List ℕ} → length s ≤ 65536 → d ≤ 1 → Sends d s send → table ≡ tableOf d down up → send .at + send .count ≤ length s * 8
+    → ((n : ℕ) → Fails 236059 (messageAt table s) s (record { at = send .at; end = send .at + send .count; why = 0; marks = 0 }) n) → Says (Refused 5 (send .at + send .count) 0 0) w (settle (readFrame (pdus d down up) s) w)
+says-unlisted d down up s w send small one x q l f =
+    let tried = tried-refused d down up s (send-unlisted d s send small one x down up q l f .run) (λ z. omega arith) (λ z. omega arith) in
+    says-refused {w = w} (readFrame (pdus d down up) s) (tried .is) (λ z. omega arith) (λ z. omega arith)
