@@ -173,7 +173,7 @@ fn bounds_of(left: u64) -> Bounds
 
 // Latitude and longitude, each of which may be absent: 50 bits at most, so that one word has them all.
 pub fn read_pair(s: &[u8], words: &mut [u64], n: usize, at: usize) -> Step
-    requires { ⌜ (n < 2 ^ 29) × (space (n + 11) ≤ length (now words)) × (at < 2 ^ 59) × (at + 96 ≤ length (now s) * 8) ⌝ }
+    requires { ⌜ (n < 2 ^ 29) × (space (n + 11) ≤ length (now words)) × (at < 2 ^ 59) × (at + 64 ≤ length (now s) * 8) ⌝ }
     ensures { λ r. ⌜ Ample 11 50 message.latlon (now (s .entry)) at n (now (words .entry)) (now (words .exit)) r ⌝ }
 {
     let word = ahead(s, at);

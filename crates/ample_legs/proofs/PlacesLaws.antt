@@ -56,13 +56,13 @@ module _ {s : List ℕ} {at n : ℕ} {w : List ℕ} {published : Bool} {bearings
 abbrev pub Stands : (at n bearings m p left room room₀ : ℕ) → Type 0
 Stands at n bearings m p left room room₀ = (left ≤ bearings) × (bearings ≤ 2 * left) × (m + 15 * left ≤ n + 15 * bearings) × (p + 121 * left ≤ at + 121 * bearings) × (room ≡ room₀)
 
-module _ {end at n bearings m p left room room₀ : ℕ} {More : Type 0} (f : (n < 2 ^ 25) × (space (n + 30) ≤ room₀) × (at < 2 ^ 55) × (at + 157 ≤ end) × (at + 55 + 121 * bearings ≤ end) × (bearings ≤ 2) × More) (o : Stands at n bearings m p left room room₀) where
-  pub place-fits : Fits (2 ^ 27) 13 (2 ^ 57) 157 room end m p
+module _ {end at n bearings m p left room room₀ : ℕ} {More : Type 0} (f : (n < 2 ^ 25) × (space (n + 30) ≤ room₀) × (at < 2 ^ 55) × (at + 125 ≤ end) × (at + 47 + 121 * bearings ≤ end) × (bearings ≤ 2) × More) (o : Stands at n bearings m p left room room₀) where
+  pub place-fits : Fits (2 ^ 27) 13 (2 ^ 57) 125 room end m p
   place-fits =
       let e : m + 13 ≤ n + 30 = omega (arith, f .5, o .0, o .1, o .2) in
       (omega (arith, f .0, e), omega (arith, f .1, o .4, space-grows e), omega (arith, f .2, f .5, o .0, o .3), omega (arith, f .3, f .4, f .5, o .0, o .1, o .3))
 
-  pub bearing-fits : 1 ≤ left → Fits (2 ^ 27) 15 (2 ^ 57) 175 room end m p
+  pub bearing-fits : 1 ≤ left → Fits (2 ^ 27) 15 (2 ^ 57) 168 room end m p
   bearing-fits h =
       let e : m + 15 ≤ n + 30 = omega (arith, f .5, o .2) in
       (omega (arith, f .0, e), omega (arith, f .1, o .4, space-grows e), omega (arith, f .2, f .5, o .3), omega (arith, f .4, o .3))

@@ -21,7 +21,7 @@ use records::store;
 const INDEX: usize = 3;
 
 // The octets that the reading of two places with a bearing each may touch, from that of its first bit on.
-const BETWEEN_OCTETS: usize = 38;
+const BETWEEN_OCTETS: usize = 37;
 
 // Places, published or coordinates alone, with as many bearings: one place without, one with its bearing, two with a bearing each. The word of a bearing serves the next place too.
 fn read_places(
@@ -33,7 +33,7 @@ fn read_places(
     published: bool,
     bearings: usize,
 ) -> Step
-    requires { ⌜ (n < 2 ^ 25) × (space (n + 30) ≤ length (now words)) × (at < 2 ^ 55) × (at + 157 ≤ length (now s) * 8) × (at + 55 + 121 * bearings ≤ length (now s) * 8) × (bearings ≤ 2) × (Ahead (now s) at 47 v) ⌝ }
+    requires { ⌜ (n < 2 ^ 25) × (space (n + 30) ≤ length (now words)) × (at < 2 ^ 55) × (at + 125 ≤ length (now s) * 8) × (at + 47 + 121 * bearings ≤ length (now s) * 8) × (bearings ≤ 2) × (Ahead (now s) at 47 v) ⌝ }
     ensures { λ r. ⌜ Ample 30 242 (placesOf published bearings) (now (s .entry)) at n (now (words .entry)) (now (words .exit)) r ⌝ }
 {
     let mut m = n;
@@ -75,7 +75,7 @@ fn read_places(
 
 // What a leg says behind its place in the clearance, by its index.
 pub fn read_route_information(s: &[u8], words: &mut [u64], n: usize, at: usize) -> Step
-    requires { ⌜ (n < 2 ^ 24) × (space (n + 31) ≤ length (now words)) × (at < 2 ^ 54) × (at + 160 ≤ length (now s) * 8) ⌝ }
+    requires { ⌜ (n < 2 ^ 24) × (space (n + 31) ≤ length (now words)) × (at < 2 ^ 54) × (at + 128 ≤ length (now s) * 8) ⌝ }
     ensures { λ r. ⌜ Ample 31 245 routeInformation (now (s .entry)) at n (now (words .entry)) (now (words .exit)) r ⌝ }
 {
     let v = ahead(s, at);

@@ -167,7 +167,7 @@ fn read_name(s: &[u8], words: &mut [u64], n: usize, v: u64, at: usize, published
 
 // A published place, or coordinates alone.
 pub fn read_place(s: &[u8], words: &mut [u64], n: usize, v: u64, at: usize, published: bool) -> Step
-    requires { ⌜ (n < 2 ^ 27) × (space (n + 13) ≤ length (now words)) × (at < 2 ^ 57) × (at + 157 ≤ length (now s) * 8) × (Ahead (now s) at 47 v) ⌝ }
+    requires { ⌜ (n < 2 ^ 27) × (space (n + 13) ≤ length (now words)) × (at < 2 ^ 57) × (at + 125 ≤ length (now s) * 8) × (Ahead (now s) at 47 v) ⌝ }
     ensures { λ r. ⌜ Ample 13 111 (placeOf published) (now (s .entry)) at n (now (words .entry)) (now (words .exit)) r ⌝ }
 {
     let x = read_name(s, words, n, v, at, published);

@@ -23,7 +23,7 @@ use runs::At;
 use tell_legs::tell_leg;
 
 // The octets that the reading of a leg with one place may touch, from its first bit on.
-const AMPLE_OCTETS: usize = 20;
+const AMPLE_OCTETS: usize = 16;
 
 // The records of a leg are at most as many.
 const AMPLE_RECORDS: usize = 32;
@@ -55,7 +55,7 @@ fn put_value(s: &[u8], words: &mut [u64], n: usize, c: Cursor, place: u64) -> At
 
 // Whether the reading goes on, and there would be octets and room for a leg if nothing stood before it.
 fn is_ample(octets: usize, room: usize, n: usize, why: u64) -> bool
-    ensures { λ r. ⌜ (r ≡ true → (why ≡ 0) × (20 ≤ octets) × (octets < 2 ^ 50) × (n < 2 ^ 23) × (space 32 ≤ room)) ⌝ }
+    ensures { λ r. ⌜ (r ≡ true → (why ≡ 0) × (16 ≤ octets) × (octets < 2 ^ 50) × (n < 2 ^ 23) × (space 32 ≤ room)) ⌝ }
 {
     if why != 0 {
         return false;

@@ -41,11 +41,11 @@ unfolding or
 returns-2 c = let l = c .before .before .before .before .before .before in rest-bare (l .loop .inv .1) (l .loop .inv .0 .1) (c .if2 .taken) (c .before .before .before .before .read-place .ensures)
 
 -- behind a place there are the bits and the room of its bearing
-bearing-ahead : (c : tie.Else2 Inv-loop μ-loop) → Fits (2 ^ 30) 2 (2 ^ 60) 64 (length (c .before .before .before .before .read-place .last .1 .0)) (length (c .before .before .before .before .before .before .before .before .before .args .s .now) * 8) (c .before .before .before .before .read-place .result .n) (c .before .before .before .before .read-place .result .at)
+bearing-ahead : (c : tie.Else2 Inv-loop μ-loop) → Fits (2 ^ 30) 2 (2 ^ 60) 57 (length (c .before .before .before .before .read-place .last .1 .0)) (length (c .before .before .before .before .before .before .before .before .before .args .s .now) * 8) (c .before .before .before .before .read-place .result .n) (c .before .before .before .before .read-place .result .at)
 bearing-ahead c =
     let l = c .before .before .before .before .before .before in
     let d = c .before .before .before .before .read-place .ensures .done (c .before .if1 .left) in
-    fits-on 2 111 64 (bearing-fits (l .before .before .before .pre) (l .loop .inv .0) (omega (arith, c .if2 .left))) (d .told) (d .near) (omega arith) (omega arith) (omega arith) (omega arith)
+    fits-on 2 111 57 (bearing-fits (l .before .before .before .pre) (l .loop .inv .0) (omega (arith, c .if2 .left))) (d .told) (d .near) (omega arith) (omega arith) (omega arith) (omega arith)
 
 ahead-requires : tie.Need-ahead-requires Inv-loop μ-loop
 ahead-requires c κs = omega (arith, bearing-ahead c .3)

@@ -25,7 +25,7 @@ read-designator-requires : tie.Need-read-designator-requires
 read-designator-requires c κs =
     let b = c .before .before .before .before in
     let a = b .before .before .before .before .before .before .before in
-    let f = fits-on {N′ = 2 ^ 30} {M′ = 2 ^ 59} {p = a .args .at + 3} 1 3 157 (a .pre) (b .store .ensures) (omega arith) (omega arith) (omega arith) (omega arith) (omega arith) in
+    let f = fits-on {N′ = 2 ^ 30} {M′ = 2 ^ 59} {p = a .args .at + 3} 1 3 125 (a .pre) (b .store .ensures) (omega arith) (omega arith) (omega arith) (omega arith) (omega arith) in
     (f .0, f .1, f .2)
 
 returns : tie.Need-returns
@@ -48,7 +48,7 @@ read-places-requires c κs =
     let j = c .before .if3 .came in
     let b = c .before .before .before .before .before .before in
     let a = b .before .before .before .before .before .before .before in
-    let f = fits-on {N′ = 2 ^ 25} {M′ = 2 ^ 55} {p = a .args .at + 3} 30 3 157 (a .pre) (b .store .ensures) (omega arith) (omega arith) (omega arith) (omega arith) (omega arith) in
+    let f = fits-on {N′ = 2 ^ 25} {M′ = 2 ^ 55} {p = a .args .at + 3} 30 3 125 (a .pre) (b .store .ensures) (omega arith) (omega arith) (omega arith) (omega arith) (omega arith) in
     (f .0, f .1, f .2, f .3, ⊎-elim (λ q. omega (arith, q .1 .left, q .2)) (λ q. omega (arith, f .3, q .1)) j, ⊎-elim (λ q. omega (arith, q .2)) (λ q. omega (arith, q .1)) j, ahead-fewer 47 (rest-ahead (b .before .before)) (omega arith))
 
 returns-4 : tie.Need-returns-4

@@ -20,7 +20,7 @@ read-pair-requires : tie.Need-read-pair-requires
 read-pair-requires c κs =
     let x = c .before .before .before .before .before .read-name .ensures in
     let a = c .before .before .before .before .before .before .before .before .before in
-    fits-on 11 61 96 (a .pre .0, a .pre .1, a .pre .2, a .pre .3) (x .told) (x .near) (omega arith) (omega arith) (omega arith) (omega arith)
+    fits-on 11 61 64 (a .pre .0, a .pre .1, a .pre .2, a .pre .3) (x .told) (x .near) (omega arith) (omega arith) (omega arith) (omega arith)
 
 returns-2 : tie.Need-returns-2
 unfolding or
