@@ -3,7 +3,7 @@
    Each takes a frame and lends words for the records; all memory is the caller's. It writes nothing but the words
    given, reads nothing but what is passed, keeps nothing, and always returns. No pointer may be null, also where the
    length is 0; the words must be aligned for uint64_t, and may not overlap the frame or a table. A first reading keeps
-   its records on the stack: up to 1,920 bytes of them, and by adjagosk_pdus 49,152 for a long message. */
+   its records on the stack: up to 1,920 bytes of them, and by adjagosk_pdus 49,920 for a long message. */
 #ifndef ADJAGOSK_H
 #define ADJAGOSK_H
 

@@ -37,10 +37,10 @@ const FEW_BITS: usize = 76;
 
 const FEW_SPARE: usize = 80;
 
-// A string of so many bits may have many records, and these words hold 1,228: more than a clearance of 128 legs mostly has.
+// A string of so many bits may have many records, and these words hold 1,248: more than a clearance of 128 legs mostly has.
 const MANY_BITS: usize = 1024;
 
-const MANY_SPARE: usize = 6144;
+const MANY_SPARE: usize = 6240;
 
 // A frame of a known direction: 0 is the downlink, 1 the uplink.
 pub fn parse_pdus(frame: &[u8], direction: u64, down: &[u8], up: &[u8], words: &mut [u64]) -> Answer
