@@ -9,7 +9,7 @@ use cursor::place::Cursor;
 use per::units::Octets;
 
 // Accepted: whether cut, the reach and the marks; the record of the message, by its value, second number and place, and two at most behind it.
-#[derive(Drop)]
+#[derive(Clone, Copy)]
 pub struct Message {
     pub cut: bool,
     pub reach: usize,
@@ -22,7 +22,7 @@ pub struct Message {
 }
 
 // A message, or the reach where the frame ran out, with the bits lacked, or was badly formed.
-#[derive(Drop)]
+#[derive(Clone, Copy)]
 pub enum Apdu {
     Heard(Message),
     RanOut(usize, usize),

@@ -1,4 +1,6 @@
 // Release and abort. Where the frame ends in them, what was read before stays.
+#![tactic(auto)]
+
 ghost use Rattle.std.specs.Prelude.{◌≡◌, cond, ◌<◌, eqb};
 ghost use Rattle.atn.specs.Tags.{release_request_reason, release_response_reason};
 ghost use Rattle.acse_bodies.specs.Bodies.{release_body, abort_body, unread_body, alone_body, body_recs, Chosen};
@@ -12,7 +14,7 @@ use cursor::place::{Cursor, mark};
 use field_ranges::table::{ABORT_DIAGNOSTIC, SIDE};
 
 // Two notes at most, and the place behind what was read for them.
-#[derive(Drop)]
+#[derive(Clone, Copy)]
 pub struct Body {
     pub first: Note,
     pub next: Note,

@@ -5,14 +5,14 @@ ghost use Rattle.acse_reasons.specs.Notes.{note_at};
 use cursor::place::Cursor;
 
 // A record outside elements, by its tag, value, second number and place, or none: what stands behind the frame's end is not told.
-#[derive(Drop)]
+#[derive(Clone, Copy)]
 pub enum Note {
     Untold,
     Told(u64, u64, u64, usize),
 }
 
 // A note, and the place behind what was read for it.
-#[derive(Drop)]
+#[derive(Clone, Copy)]
 pub struct NoteAt {
     pub note: Note,
     pub c: Cursor,

@@ -13,7 +13,7 @@ pub mod writing; // writing.rt: the writer of fixture frames
 
 // An answer in numbers. `refused` is 0, or document 01's number. Behind a refusal all but the reach and, for 7, the words needed, and for 4 the bits lacked, is 0.
 #[repr(C)]
-#[derive(Drop)]
+#[derive(Clone, Copy)]
 pub struct Numbers {
     pub refused: u64,
     pub cut: bool,

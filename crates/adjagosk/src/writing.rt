@@ -8,7 +8,7 @@ use fixture_writer::{Written, write_message};
 
 // What was written, in numbers. `refused` is 0, or the number of the refusal: 2, 3, 8 or 9. Behind a refusal `bits` is 0, and only 9 has a `need`, in bytes.
 #[repr(C)]
-#[derive(Drop)]
+#[derive(Clone, Copy)]
 pub struct Frame {
     pub refused: u64,
     pub bits: usize,

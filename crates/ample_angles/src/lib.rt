@@ -1,4 +1,6 @@
 // Latitudes and longitudes whose bits are all ahead, at the top of a word: read and told at once.
+#![tactic(auto)]
+
 ghost use Rattle.std.specs.Prelude.{◌≡◌, List, ℕ, ◌+◌, ◌*◌, ◌^◌, ◌≤◌, ◌<◌, length};
 ghost use Rattle.x691.specs.Encoding.{width};
 ghost use Rattle.atn.specs.Format.{num, seq, end, ◌⨾◌};
@@ -121,7 +123,7 @@ fn angle(
 }
 
 // What an angle is read by: the first of its tags, the most of its thousandths and of its degrees, and the bits that these take.
-#[derive(Drop)]
+#[derive(Clone, Copy)]
 struct Bounds {
     tag: u64,
     most: u64,

@@ -1,4 +1,6 @@
 // Bits that lie ahead, at the top of a word: where a slice has enough octets, fields are cut off the word one after another, and the slice is not asked again for each.
+#![tactic(auto)]
+
 ghost use Rattle.std.specs.Prelude.{◌≡◌, ◌+◌, ◌-◌, ◌*◌, ◌/◌, ◌%◌, ◌^◌, ◌≤◌, ◌<◌, length};
 ghost use Rattle.x691.specs.Bits.{bit_of, uint};
 ghost use Rattle.ample_bits.specs.Ahead.{Ahead};

@@ -1,4 +1,6 @@
 // The header of a message whose bits are all ahead, at the top of a word: read and told at once.
+#![tactic(auto)]
+
 ghost use Rattle.std.specs.Prelude.{List, ℕ, ◌+◌, ◌/◌, ◌^◌, ◌≤◌, ◌<◌, length};
 ghost use Rattle.x691.specs.Bits.{bit_of, uint};
 ghost use Rattle.field_ranges.specs.Ranges.{width_of};

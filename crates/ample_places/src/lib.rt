@@ -1,4 +1,6 @@
 // Named and published places, bearings and designators whose bits are all ahead: read and told at once, from a word that the caller hands on as far as it goes.
+#![tactic(auto)]
+
 ghost use Rattle.std.specs.Prelude.{◌≡◌, List, ℕ, ◌+◌, ◌-◌, ◌*◌, ◌/◌, ◌^◌, ◌≤◌, ◌<◌, length};
 ghost use Rattle.x691.specs.Bits.{bit_of};
 ghost use Rattle.x691.specs.Encoding.{width};
@@ -53,7 +55,7 @@ fn text_ahead(s: &[u8], v: u64, at: usize, len: usize) -> u64
 }
 
 // How far a place was read before its coordinates: these follow, unless `has` is 0.
-#[derive(Drop)]
+#[derive(Clone, Copy)]
 struct Name {
     at: usize,
     n: usize,
@@ -94,7 +96,7 @@ fn read_named(
 }
 
 // What a published place of a kind is named by: its tag, the ends of the size of its name and the bits that the size takes.
-#[derive(Drop)]
+#[derive(Clone, Copy)]
 struct Naming {
     tag: u64,
     least: usize,

@@ -1,4 +1,6 @@
 // Readings that have all their bits ahead of them, and room for all their records: nothing is asked again for each field.
+#![tactic(auto)]
+
 ghost use Rattle.std.specs.Prelude.{◌≡◌, ℕ, ◌+◌, ◌^◌, ◌<◌, ◌≤◌, length};
 ghost use Rattle.x691.specs.Types.{extent};
 ghost use Rattle.x691.specs.Encoding.{width};
@@ -13,7 +15,7 @@ use field_ranges::table::Range;
 use records::store;
 
 // Where a reading has come to: the next bit, the number of records, and its marks. At 0 it was given up, and says nothing: the same is then read field by field.
-#[derive(Drop)]
+#[derive(Clone, Copy)]
 pub struct Step {
     pub at: usize,
     pub n: usize,

@@ -1,4 +1,6 @@
 // Latitude and longitude: a form, one to three numbers, and a side. They differ in their ranges and tags alone.
+#![tactic(auto)]
+
 ghost use Rattle.std.specs.Prelude.{◌≡◌};
 ghost use Rattle.field_ranges.specs.Ranges.{Listed};
 ghost use Rattle.angles.specs.Angles.{Forms, Angles, MaybeAngles, Pairs, MaybePairs};
@@ -11,7 +13,7 @@ use field_ranges::table::{
 use ranged_numbers::ranged;
 
 // Form 0: thousandths of a degree; 1: degrees and hundredths of a minute; 2: degrees, minutes and seconds.
-#[derive(Drop)]
+#[derive(Clone, Copy)]
 pub struct Form {
     pub form: u64,
     pub first: u64,
@@ -19,60 +21,60 @@ pub struct Form {
     pub third: u64,
 }
 
-#[derive(Drop)]
+#[derive(Clone, Copy)]
 pub struct FormAt {
     pub form: Form,
     pub c: Cursor,
 }
 
 // at: where the form starts. The numbers and the side follow it, each behind the bits of the one before.
-#[derive(Drop)]
+#[derive(Clone, Copy)]
 pub struct Angle {
     pub at: usize,
     pub form: Form,
     pub side: u64,
 }
 
-#[derive(Drop)]
+#[derive(Clone, Copy)]
 pub struct AngleAt {
     pub angle: Angle,
     pub c: Cursor,
 }
 
 // has: 0 where the angle is absent
-#[derive(Drop)]
+#[derive(Clone, Copy)]
 pub struct MaybeAngle {
     pub has: u64,
     pub angle: Angle,
 }
 
-#[derive(Drop)]
+#[derive(Clone, Copy)]
 pub struct MaybeAngleAt {
     pub maybe: MaybeAngle,
     pub c: Cursor,
 }
 
 // at: where the pair starts, its presence bits included
-#[derive(Drop)]
+#[derive(Clone, Copy)]
 pub struct Pair {
     pub at: usize,
     pub latitude: MaybeAngle,
     pub longitude: MaybeAngle,
 }
 
-#[derive(Drop)]
+#[derive(Clone, Copy)]
 pub struct PairAt {
     pub pair: Pair,
     pub c: Cursor,
 }
 
-#[derive(Drop)]
+#[derive(Clone, Copy)]
 pub struct MaybePair {
     pub has: u64,
     pub pair: Pair,
 }
 
-#[derive(Drop)]
+#[derive(Clone, Copy)]
 pub struct MaybePairAt {
     pub maybe: MaybePair,
     pub c: Cursor,

@@ -1,4 +1,6 @@
 // What an entry answers.
+#![tactic(auto)]
+
 ghost use Rattle.std.specs.Prelude.{false, ◌≡◌};
 ghost use Rattle.answers.specs.declared.Answer.TheVariants.{Accepted, Refused};
 
@@ -6,7 +8,7 @@ ghost use Rattle.answers.specs.declared.Answer.TheVariants.{Accepted, Refused};
 pub const LONGEST_FRAME: usize = 65536;
 
 // Accepted: whether the frame ended where the reading carried on without the missing part, the reach, the set of marks and the number of records. Refused: document 01's number, the reach, the words needed, which only 7 has, and the bits lacked, which only 4 has.
-#[derive(Drop)]
+#[derive(Clone, Copy)]
 pub enum Answer {
     Accepted {
         cut: bool,

@@ -1,4 +1,6 @@
 // The value of an element's argument: one of sixteen, or nothing.
+#![tactic(auto)]
+
 use angles::Pair;
 use codes_runways::{Code, Runway};
 use cursor::place::Cursor;
@@ -8,7 +10,7 @@ use named_places::Procedure;
 use positions::{Departure, Position};
 use quantities::Quantity;
 
-#[derive(Drop)]
+#[derive(Clone, Copy)]
 pub enum Argument {
     Nothing,
     Position(Position),
@@ -29,7 +31,7 @@ pub enum Argument {
     Departure(Departure),
 }
 
-#[derive(Drop)]
+#[derive(Clone, Copy)]
 pub struct ArgumentAt {
     pub argument: Argument,
     pub c: Cursor,

@@ -20,20 +20,11 @@ pub nothing : {s : List ℕ} {c : Cursor} → Arguments 0 s c (record { argument
 unfolding argument_body argument_recs HeldArgument
 nothing = record { reads = takes_null; held = tt }
 
--- none of the numbers below j
-abbrev NoneBelow : ℕ → ℕ → Type 0
-NoneBelow zero k = Unit {0}
-NoneBelow (suc j) k = NoneBelow j k × (k ≡ j → ⊥)
-
-none_below : (j : ℕ) {k : ℕ} → NoneBelow j k → j ≤ k
-none_below zero h = omega arith
-none_below (suc j) h = omega (arith, none_below j h.0, h.1)
-
 beyond : (k : ℕ) → 17 ≤ k → argument_body k ≡ message.no_reader
 unfolding argument_body
 beyond zero h = absurd (omega arith)
 beyond (suc k) h = get_or-eq_default message.arguments message.no_reader {n = k} (omega arith)
 
-pub no_reader_lem : {k : ℕ} {s : List ℕ} {c d : Cursor} → NoneBelow 17 k → d ≡ stopped c 5 0 → Arguments k s c (record { argument = Nothing; c = d })
+pub no_reader_lem : {k : ℕ} {s : List ℕ} {c d : Cursor} → 17 ≤ k → d ≡ stopped c 5 0 → Arguments k s c (record { argument = Nothing; c = d })
 unfolding HeldArgument
-no_reader_lem {k} {s} {c} {d} h q = record { reads = rw (beyond k (none_below 17 h)) (takes_refuse bad 0 (λ z. omega arith) q); held = tt }
+no_reader_lem {k} {s} {c} {d} h q = record { reads = rw (beyond k h) (takes_refuse bad 0 (λ z. omega arith) q); held = tt }

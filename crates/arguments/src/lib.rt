@@ -1,4 +1,6 @@
 // The arguments of elements: which one an element has is the lent table's byte, 0 to 16. An argument is read as a value, and told from it.
+#![tactic(auto)]
+
 ghost use Rattle.argument_values.specs.Arguments.{Arguments};
 
 use argument_values::{Argument, ArgumentAt};

@@ -1,4 +1,6 @@
 // Changes of the places of a book.
+#![tactic(auto)]
+
 ghost use Rattle.std.specs.Prelude.{◌≡◌, ◌++◌, ◌+◌, ◌*◌, ◌≤◌, ◌<◌, length, take, drop, replicate};
 ghost use Rattle.book_entries.specs.Entries.{words, entry_at};
 ghost use Rattle.book_entries.specs.Book.{picture, entries};

@@ -1,9 +1,11 @@
 // The entries of a name book: a place has four words.
+#![tactic(auto)]
+
 ghost use Rattle.std.specs.Prelude.{◌≡◌, ◌++◌, ◌+◌, ◌*◌, ◌^◌, ◌-◌, ◌≤◌, ◌<◌, length, take, drop};
 ghost use Rattle.book_entries.specs.Entries.{text as Entries·text, plain as Entries·plain, good as Entries·good, words, entry_at};
 
 // high and low are the name's characters, the first one highest and zeros behind the last; number is the frame's; shape is the number of characters, times 2^20 (five digits), and the frame's byte length.
-#[derive(Drop)]
+#[derive(Clone, Copy)]
 pub struct Entry {
     pub high: u32,
     pub low: u32,

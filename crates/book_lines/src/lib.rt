@@ -1,4 +1,6 @@
 // One line of a saved book.
+#![tactic(auto)]
+
 ghost use Rattle.std.specs.Prelude.{◌≡◌, ◌+◌, ◌*◌, ◌≤◌, ◌<◌, length};
 ghost use Rattle.book_entries.specs.Entries.{size};
 ghost use Rattle.book_lines.specs.Lines.{digit as Lines·digit, digits, put, line};

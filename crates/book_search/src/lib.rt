@@ -1,4 +1,6 @@
 // What the places of a book hold: the number of their entries, where one stands, and whether the calls can have left such places.
+#![tactic(auto)]
+
 ghost use Rattle.std.specs.Prelude.{◌≡◌, cond, List, ◌+◌, ◌*◌, ◌≤◌, ◌<◌, length, drop};
 ghost use Rattle.std.proofs.Math.Option.{none, some};
 ghost use Rattle.book_entries.specs.Entries.{entry_at};

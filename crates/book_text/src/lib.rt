@@ -6,7 +6,7 @@ use book_entries::Entry;
 use line_reader::{Line, read_line};
 
 // Whether a line is good, its entry, and where the next line begins.
-#[derive(Drop)]
+#[derive(Clone, Copy)]
 pub struct Piece {
     pub good: bool,
     pub entry: Entry,

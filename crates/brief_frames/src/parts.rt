@@ -16,7 +16,7 @@ use length_determinants::small;
 use per::width::bits_for;
 
 // Why the frame is refused, 0 where it is not: document 01's number, and 16 times the bits lacked where it ran out. Then what the record of its choice and the one behind that tell, the reach and the marks.
-#[derive(Drop)]
+#[derive(Clone, Copy)]
 pub struct Brief {
     pub why: u64,
     pub index: u64,

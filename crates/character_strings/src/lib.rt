@@ -1,4 +1,6 @@
 // Texts by their places: what is read of a text is where its characters are, and nothing is copied.
+#![tactic(auto)]
+
 ghost use Rattle.character_strings.specs.Texts.{SizeRow, Sized, Texts, Channel, Ahead, Passed, Digits};
 
 use cursor::place::{Cursor, Got, bits, mark, ran_out, stop};
@@ -6,14 +8,14 @@ use field_ranges::table::Range;
 use per::room::holds;
 
 // Where the field starts, which is at its size if that has bits; the place of the first character's bit, and the number of characters.
-#[derive(Drop)]
+#[derive(Clone, Copy)]
 pub struct Text {
     pub from: usize,
     pub at: usize,
     pub len: usize,
 }
 
-#[derive(Drop)]
+#[derive(Clone, Copy)]
 pub struct TextAt {
     pub text: Text,
     pub c: Cursor,

@@ -16,7 +16,7 @@ use per::units::Octets;
 use runs::At;
 
 // The bits of the clean message, or that there is none.
-#[derive(Drop)]
+#[derive(Clone, Copy)]
 pub enum Reach {
     Clean(usize),
     NotClean,

@@ -1,4 +1,6 @@
 // The number of the route clearances that a message has behind its elements.
+#![tactic(auto)]
+
 ghost use Rattle.clearance_count.specs.Counts.{Counts};
 
 use character_strings::size;

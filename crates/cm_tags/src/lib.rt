@@ -1,4 +1,6 @@
 // The tags of the records of context management (docs/TAGS.md).
+#![tactic(auto)]
+
 pub const CM_GROUND_PDU: u64 = 110;
 
 pub const CM_AIRCRAFT_PDU: u64 = 111;

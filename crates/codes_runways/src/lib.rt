@@ -1,11 +1,13 @@
 // A transponder code of four octal digits; a runway: direction 1 to 36, and its side.
+#![tactic(auto)]
+
 ghost use Rattle.codes_runways.specs.Readers.{Codes, Runways};
 
 use cursor::place::Cursor;
 use field_ranges::table::{CODE_DIGIT, RUNWAY, RUNWAY_SIDE};
 use ranged_numbers::ranged;
 
-#[derive(Drop)]
+#[derive(Clone, Copy)]
 pub struct Code {
     pub first: u64,
     pub first_at: usize,
@@ -17,7 +19,7 @@ pub struct Code {
     pub fourth_at: usize,
 }
 
-#[derive(Drop)]
+#[derive(Clone, Copy)]
 pub struct CodeAt {
     pub code: Code,
     pub c: Cursor,
@@ -44,7 +46,7 @@ pub fn read_code(s: &[u8], c: Cursor) -> CodeAt
     CodeAt { code: code, c: end }
 }
 
-#[derive(Drop)]
+#[derive(Clone, Copy)]
 pub struct Runway {
     pub direction: u64,
     pub direction_at: usize,
@@ -52,7 +54,7 @@ pub struct Runway {
     pub side_at: usize,
 }
 
-#[derive(Drop)]
+#[derive(Clone, Copy)]
 pub struct RunwayAt {
     pub runway: Runway,
     pub c: Cursor,

@@ -9,7 +9,7 @@ use book_entries::wide;
 use book_search::{count, sound};
 
 // Places: how many names the book still takes.
-#[derive(Drop)]
+#[derive(Clone, Copy)]
 pub enum Free {
     Places { count: u64 },
     Refused { number: u64 },

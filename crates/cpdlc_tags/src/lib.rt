@@ -1,4 +1,6 @@
 // The tags of the records of CPDLC (docs/TAGS.md).
+#![tactic(auto)]
+
 pub const DIRECTION: u64 = 1;
 
 pub const PDU: u64 = 2;

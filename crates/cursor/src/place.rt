@@ -5,7 +5,7 @@ ghost use Rattle.cursor.specs.Place.{number, Pulls, Opens, stopped, marked};
 
 use per::number::uint;
 
-#[derive(Drop)]
+#[derive(Clone, Copy)]
 pub struct Cursor {
     pub at: usize,
     pub end: usize,
@@ -13,7 +13,7 @@ pub struct Cursor {
     pub marks: u64,
 }
 
-#[derive(Drop)]
+#[derive(Clone, Copy)]
 pub struct Got {
     pub v: u64,
     pub c: Cursor,

@@ -1,4 +1,6 @@
 // A date and time: six numbers, as values and as records.
+#![tactic(auto)]
+
 ghost use Rattle.std.specs.Prelude.{◌/◌, ◌%◌, ◌^◌, ◌<◌};
 ghost use Rattle.field_ranges.specs.Ranges.{width_of};
 ghost use Rattle.records.specs.Told.{Told};
@@ -15,7 +17,7 @@ use records::store;
 mod numbers; // numbers.rt: the six numbers one by one
 
 // The numbers, and where the year starts: the others follow it, each behind the bits of the one before.
-#[derive(Drop)]
+#[derive(Clone, Copy)]
 pub struct DateTime {
     pub at: usize,
     pub year: u64,
@@ -26,7 +28,7 @@ pub struct DateTime {
     pub seconds: u64,
 }
 
-#[derive(Drop)]
+#[derive(Clone, Copy)]
 pub struct DateTimeAt {
     pub time: DateTime,
     pub c: Cursor,

@@ -3,7 +3,7 @@ ghost use Rattle.std.specs.Prelude.{false, ◌≡◌};
 ghost use Rattle.decimal.specs.Decimal.{Reads};
 
 // Whether a text is a number of 64 bits, and which; 0 where it is not.
-#[derive(Drop)]
+#[derive(Clone, Copy)]
 pub struct Numeral {
     pub good: bool,
     pub value: u64,

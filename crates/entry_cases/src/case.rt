@@ -8,7 +8,7 @@ use decimal::{Numeral, number};
 use entry_names::{Entry, has_direction, is_there, named};
 
 // What the line says, or that it is no case; how many octets the tables and the frame have, and how many words are lent.
-#[derive(Drop)]
+#[derive(Clone, Copy)]
 pub struct Case {
     pub good: bool,
     pub entry: Entry,

@@ -2,12 +2,11 @@
 ghost use Rattle.std.specs.Prelude.{◌≡◌, ◌-◌, ◌≤◌, length, take, drop};
 ghost use Rattle.entry_cases.specs.Fields.{InLine};
 
-use bytes::scan::find;
 use check::same;
 use hexadecimal::Decoded;
 
 // From where to where, and where the next one starts; at the line's end where there is none.
-#[derive(Drop)]
+#[derive(Clone, Copy)]
 pub struct Stretch {
     pub from: usize,
     pub to: usize,
@@ -18,7 +17,10 @@ pub fn field(line: &[u8], from: usize) -> Stretch
     requires { from ≤ length line.now }
     ensures { InLine result (length line.now) }
 {
-    let to = find(line, from, line.len(), b' ');
+    let to = match line[from..].iter().position(|b| *b == b' ') {
+        Some(i) => from + i,
+        None => line.len(),
+    };
     if to < line.len() {
         return Stretch {
             from: from,

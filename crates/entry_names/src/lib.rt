@@ -4,7 +4,7 @@ ghost use Rattle.entry_names.specs.Names.{Names, is_entry, is_directed};
 
 use check::same;
 
-#[derive(Drop)]
+#[derive(Clone, Copy)]
 pub enum Entry {
     Apdu,
     Pdus,

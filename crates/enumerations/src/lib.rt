@@ -1,5 +1,7 @@
 // Names with an extension marker. An extended one is told as value 0 and second number 1, and what follows the bit is not read.
 // The extension bit is no field's: a name starts behind it, and an extended one has the place where the reading stood.
+#![tactic(auto)]
+
 ghost use Rattle.std.specs.Prelude.{◌≡◌};
 ghost use Rattle.field_ranges.specs.Rows.{speed-type, traffic_type, clearance_type, error-information, facility_function};
 ghost use Rattle.field_ranges.specs.Ranges.{Listed};
@@ -11,14 +13,14 @@ use field_ranges::table::{
 };
 use ranged_numbers::named;
 
-#[derive(Drop)]
+#[derive(Clone, Copy)]
 pub struct Name {
     pub value: u64,
     pub second: u64,
     pub at: usize,
 }
 
-#[derive(Drop)]
+#[derive(Clone, Copy)]
 pub struct NameAt {
     pub name: Name,
     pub c: Cursor,
@@ -79,14 +81,14 @@ pub fn read_facility_function(s: &[u8], c: Cursor) -> NameAt
     read_name(s, c, FACILITY_FUNCTION)
 }
 
-#[derive(Drop)]
+#[derive(Clone, Copy)]
 pub struct Triple {
     pub first: Name,
     pub second: Name,
     pub third: Name,
 }
 
-#[derive(Drop)]
+#[derive(Clone, Copy)]
 pub struct TripleAt {
     pub triple: Triple,
     pub c: Cursor,

@@ -5,7 +5,7 @@ ghost use Rattle.field_ranges.specs.Ranges.{Listed, width_of};
 
 use per::width::bits_for;
 
-#[derive(Drop)]
+#[derive(Clone, Copy)]
 pub struct Range {
     // its place in the table
     pub row: usize,

@@ -18,7 +18,7 @@ use write_nodes::node::write_node;
 use write_spans::inside::spans_inside;
 
 // Written: the number of bits, which stand in as many bytes as hold them. Refused: the number of the refusal, and the bytes needed, which only 9 has.
-#[derive(Drop)]
+#[derive(Clone, Copy)]
 pub enum Written {
     Wrote { bits: usize },
     Refused { number: u64, need: usize },

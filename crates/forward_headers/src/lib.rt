@@ -1,4 +1,6 @@
 // The header of a forward message. It is read as a value, so that nothing of it is told where the body ends early.
+#![tactic(auto)]
+
 ghost use Rattle.std.specs.Prelude.{◌<◌, ◌^◌};
 ghost use Rattle.character_strings.specs.Texts.{InFrame};
 ghost use Rattle.forward_headers.specs.Headers.{Headers, header_recs};
@@ -15,14 +17,14 @@ use records::emit;
 use tell::tell_text;
 
 // The time, the aircraft's identifier, and the first of the 24 bits of its address.
-#[derive(Drop)]
+#[derive(Clone, Copy)]
 pub struct Header {
     pub time: DateTime,
     pub name: Text,
     pub address: usize,
 }
 
-#[derive(Drop)]
+#[derive(Clone, Copy)]
 pub struct HeaderAt {
     pub header: Header,
     pub c: Cursor,

@@ -17,7 +17,7 @@ use verdicts::Verdict;
 
 // `number` is 0 for a name: its characters as its record has them, the first in the highest octet, how many they are, and the message's reach.
 // Else it is the refusal of the reading, or 19 where that is not clean or is of no forward message; text and size are 0 then. `lacked` is the bits lacked where the reading ran out, else 0.
-#[derive(Drop)]
+#[derive(Clone, Copy)]
 pub struct Named {
     pub number: u64,
     pub reach: usize,

@@ -1,4 +1,6 @@
 // A frequency: a kind and a number of that kind's range, or the digits of a satellite channel.
+#![tactic(auto)]
+
 ghost use Rattle.frequencies.specs.Readers.{Frequencies};
 
 use character_strings::{Text, channel};
@@ -7,7 +9,7 @@ use field_ranges::table::{FREQUENCY_0, range_at};
 use ranged_numbers::ranged;
 
 // kind 3 has a channel and no number, every other a number and no channel
-#[derive(Drop)]
+#[derive(Clone, Copy)]
 pub struct Frequency {
     pub kind: u64,
     pub kind_at: usize,
@@ -16,7 +18,7 @@ pub struct Frequency {
     pub channel: Text,
 }
 
-#[derive(Drop)]
+#[derive(Clone, Copy)]
 pub struct FrequencyAt {
     pub frequency: Frequency,
     pub c: Cursor,

@@ -1,4 +1,6 @@
 // Octets in hexadecimal, in capitals or not.
+#![tactic(auto)]
+
 ghost use Rattle.std.specs.Prelude.{false, ◌≡◌, ◌*◌, ◌≤◌, length};
 ghost use Rattle.hexadecimal.specs.Hex.{Decodes};
 ghost use Rattle.hexadecimal.specs.Hex.{digit as Hex·digit};
@@ -8,7 +10,7 @@ use stretches::{more, start, whole};
 pub mod stretches; // stretches.rt: a text that comes in stretches
 
 // Whether a text is hexadecimal, and how many octets it has; none where it is not.
-#[derive(Drop)]
+#[derive(Clone, Copy)]
 pub struct Decoded {
     pub good: bool,
     pub count: usize,

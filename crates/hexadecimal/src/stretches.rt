@@ -6,7 +6,7 @@ ghost use Rattle.hexadecimal.specs.Stretches.{SoFar};
 use super::{Decoded, bad, digit};
 
 // What was taken so far: how many octets; whether a digit waits, as the higher half of the next; whether all were digits; whether there were more than the frame has room for.
-#[derive(Drop)]
+#[derive(Clone, Copy)]
 pub struct Digits {
     pub count: usize,
     pub half: bool,

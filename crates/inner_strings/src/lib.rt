@@ -1,4 +1,6 @@
 // An inner string: where its bits stand in the frame.
+#![tactic(auto)]
+
 ghost use Rattle.std.specs.Prelude.{◌≤◌, length};
 ghost use Rattle.inner_strings.specs.Strings.{Strings};
 
@@ -8,7 +10,7 @@ use per::room::holds;
 use per::units::Bits;
 
 // Found: its first byte, the byte behind it, its bits in these bytes as a window, and the cursor behind it.
-#[derive(Drop)]
+#[derive(Clone, Copy)]
 pub enum Inner {
     Lost(Cursor),
     Found(usize, usize, Cursor, Cursor),

@@ -1,4 +1,6 @@
 // The integrity check: bits behind a length. Where the frame ends before it the message is cut; a bad length is passed over with mark 7.
+#![tactic(auto)]
+
 ghost use Rattle.std.specs.Prelude.{◌≤◌, ◌<◌, ◌^◌, length};
 ghost use Rattle.integrity.specs.Parts.{integrity};
 ghost use Rattle.runs.specs.Runs.{Runs};

@@ -27,7 +27,7 @@ const AMPLE_OCTETS: usize = 16;
 const AMPLE_RECORDS: usize = 32;
 
 // How many legs were read, how many records there are then, and where and with which marks the reading goes on.
-#[derive(Drop)]
+#[derive(Clone, Copy)]
 struct Begun {
     legs: u64,
     n: usize,

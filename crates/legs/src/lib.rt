@@ -1,4 +1,6 @@
 // A leg of a route, by its index: 0 a published place, 1 coordinates, 2 two places with a bearing each, 3 a place with a bearing and a distance, which document 01 does not supply, 4 the designator of a route.
+#![tactic(auto)]
+
 ghost use Rattle.legs.specs.Legs.{Bearings, Rangings, Legs};
 
 use angles::{Pair, read_latlon};
@@ -8,19 +10,19 @@ use field_ranges::table::ROUTE_SIZE;
 use named_places::{Published, read_published};
 use quantities::{Quantity, read_degrees};
 
-#[derive(Drop)]
+#[derive(Clone, Copy)]
 pub struct Bearing {
     pub place: Published,
     pub degrees: Quantity,
 }
 
-#[derive(Drop)]
+#[derive(Clone, Copy)]
 pub struct BearingAt {
     pub bearing: Bearing,
     pub c: Cursor,
 }
 
-#[derive(Drop)]
+#[derive(Clone, Copy)]
 pub enum Leg {
     Place(Published),
     Coordinates(Pair),
@@ -29,7 +31,7 @@ pub enum Leg {
     Unread,
 }
 
-#[derive(Drop)]
+#[derive(Clone, Copy)]
 pub struct LegAt {
     pub leg: Leg,
     pub c: Cursor,

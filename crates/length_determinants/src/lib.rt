@@ -1,4 +1,6 @@
 // The length determinant, the normally small number, and bits that are passed over.
+#![tactic(auto)]
+
 ghost use Rattle.std.specs.Prelude.{◌≡◌, ◌*◌, ◌^◌, ◌≤◌, ◌<◌, length};
 ghost use Rattle.cursor.specs.Place.{Inside};
 ghost use Rattle.length_determinants.specs.Lengths.{Passes, Known, Heads, Sums, Measures, Worth, Smalls};
@@ -8,14 +10,14 @@ use per::room::holds;
 use per::units::{Bits, Octets};
 
 // A length in units that the caller knows, and the cursor behind it.
-#[derive(Drop)]
+#[derive(Clone, Copy)]
 pub struct Measured {
     pub count: usize,
     pub c: Cursor,
 }
 
 // One length: the last, or a fragment's, behind which another length stands.
-#[derive(Drop)]
+#[derive(Clone, Copy)]
 enum Head {
     Last(usize, Cursor),
     Part(usize, Cursor),

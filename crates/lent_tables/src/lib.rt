@@ -1,4 +1,6 @@
 // The lent tables have 1 to 256 entries each.
+#![tactic(auto)]
+
 ghost use Rattle.std.specs.Prelude.{◌≡◌, ◌&&◌};
 ghost use Rattle.atn.specs.Entries.{table_fits};
 

@@ -7,7 +7,7 @@ use line_input::input::Input;
 use line_output::output;
 use line_output::output::{Output, flush};
 
-#[derive(Drop)]
+#[derive(Clone, Copy)]
 pub struct Flow {
     pub input: Input,
     pub output: Output,

@@ -2,12 +2,12 @@
 ghost use Rattle.std.specs.Prelude.{◌≤◌, length};
 ghost use Rattle.line_input.specs.Input.{Waits, Fills};
 
-use super::input::{Input, NEWLINE, either, empty, filled};
-use bytes::scan::find;
+use super::input::{Input, NEWLINE, either, empty, filled, find};
 use hexadecimal::stretches::{Digits, more};
+use std::io::Read;
 
 // What there is of a line: its digits so far, without the newline; whether there was no line, at the end of the input or where a read failed; whether all of it was taken.
-#[derive(Drop)]
+#[derive(Clone, Copy)]
 pub struct Framed {
     pub rest: Input,
     pub digits: Digits,
@@ -16,7 +16,7 @@ pub struct Framed {
 }
 
 // The next line. The last one may lack its newline.
-pub fn next(space: &mut [u8], input: Input, frame: &mut [u8]) -> Framed
+pub fn next<R: Read>(stdin: &mut R, space: &mut [u8], input: Input, frame: &mut [u8]) -> Framed
     requires { Waits input (length space.old) }
     ensures { Fills result (length space.old) (length frame.old) }
 {
@@ -29,7 +29,7 @@ pub fn next(space: &mut [u8], input: Input, frame: &mut [u8]) -> Framed
     // Nothing says that a line ends, so its parts are counted down from a number that no run uses up.
     let mut turns = u64::MAX;
     while 0 < turns {
-        l = part(space, l, frame);
+        l = part(stdin, space, l, frame);
         if l.done {
             return l;
         }
@@ -39,13 +39,13 @@ pub fn next(space: &mut [u8], input: Input, frame: &mut [u8]) -> Framed
 }
 
 // What was read of a line goes behind what there is of it.
-fn part(space: &mut [u8], l: Framed, frame: &mut [u8]) -> Framed
+fn part<R: Read>(stdin: &mut R, space: &mut [u8], l: Framed, frame: &mut [u8]) -> Framed
     requires { Fills l (length space.old) (length frame.old) }
     ensures { Fills result (length space.old) (length frame.old) }
 {
     let input = l.rest;
     let digits = l.digits;
-    let rest = filled(space, input);
+    let rest = filled(stdin, space, input);
     let at = rest.at;
     let end = rest.end;
     if at == end {

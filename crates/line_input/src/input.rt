@@ -2,13 +2,12 @@
 ghost use Rattle.std.specs.Prelude.{◌||◌, ◌≡◌, ◌≤◌, length};
 ghost use Rattle.line_input.specs.Input.{Waits, Holds};
 
-use bytes::copy;
-use bytes::scan::find;
+use std::io::Read;
 
 pub const NEWLINE: u8 = 10;
 
 // The lent bytes from `at` to `end` are read and not yet taken. After a read that failed nothing more is read, and standard error has said so.
-#[derive(Drop)]
+#[derive(Clone, Copy)]
 pub struct Input {
     pub at: usize,
     pub end: usize,
@@ -16,7 +15,7 @@ pub struct Input {
 }
 
 // How much of a line is there: its bytes without the newline, as far as they had room; whether it was longer; whether there was no line, at the end of the input or where a read failed; whether all of it was taken.
-#[derive(Drop)]
+#[derive(Clone, Copy)]
 pub struct Line {
     pub rest: Input,
     pub len: usize,
@@ -36,7 +35,7 @@ pub fn start() -> Input
 }
 
 // The next line, at the front of `line`. The last one may lack its newline.
-pub fn next(space: &mut [u8], input: Input, line: &mut [u8]) -> Line
+pub fn next<R: Read>(stdin: &mut R, space: &mut [u8], input: Input, line: &mut [u8]) -> Line
     requires { Waits input (length space.old) }
     ensures { Holds result (length space.old) (length line.old) }
 {
@@ -50,7 +49,7 @@ pub fn next(space: &mut [u8], input: Input, line: &mut [u8]) -> Line
     // Nothing says that a line ends, so its parts are counted down from a number that no run uses up.
     let mut turns = u64::MAX;
     while 0 < turns {
-        l = part(space, l, line);
+        l = part(stdin, space, l, line);
         if l.done {
             return l;
         }
@@ -60,13 +59,13 @@ pub fn next(space: &mut [u8], input: Input, line: &mut [u8]) -> Line
 }
 
 // What was read of a line goes behind what there is of it.
-fn part(space: &mut [u8], l: Line, line: &mut [u8]) -> Line
+fn part<R: Read>(stdin: &mut R, space: &mut [u8], l: Line, line: &mut [u8]) -> Line
     requires { Holds l (length space.old) (length line.old) }
     ensures { Holds result (length space.old) (length line.old) }
 {
     let len = l.len;
     let input = l.rest;
-    let rest = filled(space, input);
+    let rest = filled(stdin, space, input);
     let at = rest.at;
     let end = rest.end;
     if at == end {
@@ -80,7 +79,7 @@ fn part(space: &mut [u8], l: Line, line: &mut [u8]) -> Line
     }
     let stop = find(space, at, end, NEWLINE);
     let count = least(stop - at, line.len() - len);
-    copy(&space[at..at + count], &mut line[len..]);
+    line[len..len + count].copy_from_slice(&space[at..at + count]);
     let long = either(l.long, count < stop - at);
     if stop == end {
         return Line {
@@ -105,7 +104,7 @@ fn part(space: &mut [u8], l: Line, line: &mut [u8]) -> Line
 }
 
 // Reads once where nothing is left; what is then empty is at its end.
-pub fn filled(space: &mut [u8], input: Input) -> Input
+pub fn filled<R: Read>(stdin: &mut R, space: &mut [u8], input: Input) -> Input
     requires { Waits input (length space.old) }
     ensures { Waits result (length space.old) }
 {
@@ -115,15 +114,16 @@ pub fn filled(space: &mut [u8], input: Input) -> Input
     if input.failed {
         return input;
     }
-    let got = libc::read(0, space);
-    if got < 0 {
-        io::write_all(2, b"standard input: a read failed\n");
-        return empty(true);
-    }
-    Input {
-        at: 0,
-        end: io::count(got, space),
-        failed: false,
+    match stdin.read(space) {
+        Ok(got) => Input {
+            at: 0,
+            end: got,
+            failed: false,
+        },
+        Err(_) => {
+            io::write_all(2, b"standard input: a read failed\n");
+            empty(true)
+        }
     }
 }
 
@@ -141,6 +141,17 @@ pub fn either(a: bool, b: bool) -> bool
     ensures { result ≡ (a || b) }
 {
     if a { true } else { b }
+}
+
+// Where the first such byte stands from `from` on, or `to` where none does before it.
+pub fn find(space: &[u8], from: usize, to: usize, byte: u8) -> usize
+    requires { (from ≤ to) × (to ≤ length space.now) }
+    ensures { (from ≤ result) × (result ≤ to) }
+{
+    match space[from..to].iter().position(|b| *b == byte) {
+        Some(i) => from + i,
+        None => to,
+    }
 }
 
 fn least(a: usize, b: usize) -> usize

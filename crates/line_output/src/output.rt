@@ -1,10 +1,8 @@
 // Standard output, gathered in lent bytes. After a write that fails nothing more is written, and standard error has said so.
 ghost use Rattle.std.specs.Prelude.{◌≤◌, length};
 
-use bytes::copy;
-
 // How many of the lent bytes are not written yet, and whether a write failed.
-#[derive(Drop)]
+#[derive(Clone, Copy)]
 pub struct Output {
     pub len: usize,
     pub failed: bool,
@@ -41,7 +39,7 @@ pub fn put(space: &mut [u8], o: Output, text: &[u8]) -> Output
 {
     let len = o.len;
     if text.len() <= space.len() - len {
-        copy(text, &mut space[len..]);
+        space[len..len + text.len()].copy_from_slice(text);
         return Output {
             len: len + text.len(),
             failed: o.failed,
@@ -50,7 +48,7 @@ pub fn put(space: &mut [u8], o: Output, text: &[u8]) -> Output
     let rest = flush(space, o);
     let failed = rest.failed;
     if text.len() <= space.len() {
-        copy(text, space);
+        space[..text.len()].copy_from_slice(text);
         return Output {
             len: text.len(),
             failed: failed,

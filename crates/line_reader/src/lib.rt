@@ -5,14 +5,14 @@ ghost use Rattle.line_reader.specs.Reads.{Number, found};
 
 use book_entries::{Entry, good, unit};
 
-#[derive(Drop)]
+#[derive(Clone, Copy)]
 pub enum Line {
     Good { entry: Entry },
     Bad,
 }
 
 // Whether a text is digits alone, and their number; 0 where it is not.
-#[derive(Drop)]
+#[derive(Clone, Copy)]
 pub struct Numeral {
     pub good: bool,
     pub value: u64,

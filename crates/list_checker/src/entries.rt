@@ -8,7 +8,7 @@ use cm::parse_cm;
 use cpdlc::{parse_apdu, parse_pdus};
 
 // A direction is 0 for the aircraft's message and 1 for the ground's.
-#[derive(Drop)]
+#[derive(Clone, Copy)]
 pub enum Entry {
     Apdu,
     Pdus(u64),

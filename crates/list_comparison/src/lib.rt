@@ -1,11 +1,13 @@
 // A list of records from any source, five words each, held to the records of a reading.
+#![tactic(auto)]
+
 ghost use Rattle.std.specs.Prelude.{List, ◌≡◌, ◌+◌, ◌*◌, ◌≤◌, length, take};
 ghost use Rattle.atn.specs.Entries.{flat};
 ghost use Rattle.atn.specs.Reading.{Rec};
 ghost use Rattle.list_comparison.specs.Compared.{alike, compared};
 
 // What is said of a list: it is the reading; or which of its records is the first that is not as in the reading, by its place from 1; or a refusal.
-#[derive(Drop)]
+#[derive(Clone, Copy)]
 pub enum Checked {
     Yes,
     Differs(usize),

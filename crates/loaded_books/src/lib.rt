@@ -13,14 +13,14 @@ use book_text::line_at;
 use counted_books::{recount, sound_book};
 
 // Done: how many names are held now.
-#[derive(Drop)]
+#[derive(Clone, Copy)]
 pub enum Loaded {
     Done { names: usize },
     Refused { number: u64 },
 }
 
 // Whether all lines are good, and how many there are.
-#[derive(Drop)]
+#[derive(Clone, Copy)]
 pub struct Counted {
     pub good: bool,
     pub count: usize,

@@ -1,4 +1,6 @@
 // Numbers of the header that are read and, if the reading goes on, told at once.
+#![tactic(auto)]
+
 ghost use Rattle.std.specs.Prelude.{◌<◌, ◌^◌};
 ghost use Rattle.field_ranges.specs.Ranges.{Listed};
 ghost use Rattle.message_fields.specs.Fields.{number_field, maybe_number_field, date_time_field, acknowledgment_field};

@@ -1,4 +1,6 @@
 // The formats of all messages as one table of nodes, and the nodes where they begin.
+#![tactic(auto)]
+
 ghost use Rattle.std.specs.Prelude.{◌≡◌, ◌≤◌};
 ghost use Rattle.message_nodes.specs.Roots.{root_of};
 ghost use Rattle.message_nodes.specs.Table.{table};

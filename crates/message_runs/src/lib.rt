@@ -1,7 +1,8 @@
 // The kinds of messages that are sent back to back, and what is answered of a run of them. The definitions stand in specs/, what follows from them in proofs/. Nothing runs here.
+#![tactic(auto)]
 
 // Each is read by one entry; what association control says has no direction.
-#[derive(Drop)]
+#[derive(Clone, Copy)]
 pub enum Kind {
     Cpdlc,
     Cm,
@@ -9,7 +10,7 @@ pub enum Kind {
 }
 
 // All: every message of the run is clean. UpTo: the message at this byte is not, and the starts are those before it. Refused: the number of the refusal, and the numbers needed, which only 20 has.
-#[derive(Drop)]
+#[derive(Clone, Copy)]
 pub enum Starts {
     All { count: usize },
     UpTo { count: usize, byte: usize },

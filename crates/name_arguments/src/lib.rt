@@ -1,4 +1,6 @@
 // A reader for each argument that is a name, or three: its value, as one of the arguments.
+#![tactic(auto)]
+
 ghost use Rattle.argument_values.specs.Arguments.{Arguments};
 
 use argument_values::{Argument, ArgumentAt};

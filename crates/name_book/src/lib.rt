@@ -10,7 +10,7 @@ use book_search::{count, find_name, find_number};
 use counted_books::{recount, sound_book};
 
 // Repeated: the number of the frame that had the name first.
-#[derive(Drop)]
+#[derive(Clone, Copy)]
 pub enum Added {
     New,
     Repeated { number: u32 },
@@ -18,14 +18,14 @@ pub enum Added {
     Refused { number: u64 },
 }
 
-#[derive(Drop)]
+#[derive(Clone, Copy)]
 pub enum Withdrawn {
     Gone,
     Refused { number: u64 },
 }
 
 // At: the number and the byte length of the frame with this name.
-#[derive(Drop)]
+#[derive(Clone, Copy)]
 pub enum Found {
     At { number: u32, bytes: u32 },
     Nowhere,

@@ -1,4 +1,6 @@
 // Named places, published ones, and procedures: texts by their places in the frame, with what may follow them.
+#![tactic(auto)]
+
 ghost use Rattle.character_strings.specs.Texts.{SizeRow};
 ghost use Rattle.named_places.specs.Names.{NamedPlaces, PublishedPlaces, Procedures};
 
@@ -9,34 +11,34 @@ use field_ranges::table::{
     FIX_SIZE, NAVAID_SIZE, PROCEDURE, PROCEDURE_SIZE, Range, TRANSITION_SIZE,
 };
 
-#[derive(Drop)]
+#[derive(Clone, Copy)]
 pub struct Named {
     pub name: Text,
     pub place: MaybePair,
 }
 
-#[derive(Drop)]
+#[derive(Clone, Copy)]
 pub struct NamedAt {
     pub named: Named,
     pub c: Cursor,
 }
 
 // kind 0: a fix; 1: a navaid
-#[derive(Drop)]
+#[derive(Clone, Copy)]
 pub struct Published {
     pub kind: u64,
     pub at: usize,
     pub named: Named,
 }
 
-#[derive(Drop)]
+#[derive(Clone, Copy)]
 pub struct PublishedAt {
     pub published: Published,
     pub c: Cursor,
 }
 
 // has: 0 where the transition is absent
-#[derive(Drop)]
+#[derive(Clone, Copy)]
 pub struct Procedure {
     pub kind: u64,
     pub at: usize,
@@ -45,7 +47,7 @@ pub struct Procedure {
     pub transition: Text,
 }
 
-#[derive(Drop)]
+#[derive(Clone, Copy)]
 pub struct ProcedureAt {
     pub procedure: Procedure,
     pub c: Cursor,

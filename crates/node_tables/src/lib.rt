@@ -1,10 +1,12 @@
 // Formats as tables of nodes, six numbers each.
+#![tactic(auto)]
+
 ghost use Rattle.std.specs.Prelude.{◌≡◌, ◌≤◌, ◌<◌, length};
 ghost use Rattle.node_tables.specs.Nodes.{node_word};
 ghost use Rattle.node_tables.specs.Row.{IsNode};
 
 // A kind, and what it takes.
-#[derive(Drop)]
+#[derive(Clone, Copy)]
 pub struct Node {
     pub kind: u64,
     pub a: u64,

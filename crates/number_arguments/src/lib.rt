@@ -1,4 +1,6 @@
 // A reader for each argument that is a number, a kind with a number, or a few numbers: its value, as one of the arguments.
+#![tactic(auto)]
+
 ghost use Rattle.argument_values.specs.Arguments.{Arguments};
 
 use argument_values::{Argument, ArgumentAt};

@@ -1,4 +1,6 @@
 // The two texts of a NumericString. The source takes its first unit for the digit 0; by X.680 it is the space, and the digits follow: so each character is one less, and the space where it was the digit 0.
+#![tactic(auto)]
+
 ghost use Rattle.std.specs.Prelude.{◌≡◌, ◌<◌};
 ghost use Rattle.numeric_strings.specs.Spacing.{spaced_octet, spaced_octets};
 

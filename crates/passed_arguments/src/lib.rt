@@ -1,4 +1,6 @@
 // Arguments of elements passed over: where one ends, by the word of bits that it begins with. No value is read and no record told.
+#![tactic(auto)]
+
 ghost use Rattle.std.specs.Prelude.{◌≡◌, ◌+◌, ◌^◌, ◌≤◌, ◌<◌, length};
 ghost use Rattle.field_ranges.specs.Ranges.{width_of};
 ghost use Rattle.ample_bits.specs.Ahead.{Ahead};

@@ -1,4 +1,6 @@
 // A pen: where the writer stands in the list of records and in the bits, and whether the list is refused. A refusal stays: behind it nothing counts.
+#![tactic(auto)]
+
 ghost use Rattle.std.specs.Prelude.{◌≡◌, false, true, List, [], ◌∷◌, ℕ, zero, ◌*◌, ◌^◌, ◌≤◌, ◌<◌, length};
 ghost use Rattle.record_lists.specs.Items.{plain};
 ghost use Rattle.record_lists.specs.Kinds.{span_tag};
@@ -11,7 +13,7 @@ use bit_writer::number::put;
 pub mod places; // places.rt: bits that are put before others
 
 // The next record, the place of the next bit, and whether the list is refused.
-#[derive(Drop)]
+#[derive(Clone, Copy)]
 pub struct Pen {
     pub next: usize,
     pub at: usize,

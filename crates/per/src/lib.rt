@@ -1,5 +1,7 @@
 // The lowest layer of the reader: numbers out of the bits of a frame. A bit's place counts from the
 // top of the first octet.
+#![tactic(auto)]
+
 mod cut; // cut.rt: bits cut out of a number
 pub mod number; // number.rt: the number that some bits spell
 pub mod octets; // octets.rt: octets as one number

@@ -1,10 +1,10 @@
 // A count of octets and a count of bits, as two types, so that neither passes for the other.
 ghost use Rattle.std.specs.Prelude.{◌≡◌, ◌*◌, ◌^◌, ◌<◌};
 
-#[derive(Drop)]
+#[derive(Clone, Copy)]
 pub struct Octets(pub usize);
 
-#[derive(Drop)]
+#[derive(Clone, Copy)]
 pub struct Bits(pub usize);
 
 impl Octets {

@@ -1,4 +1,6 @@
 // Phrases: the lines of a lent table, and the brackets of a phrase.
+#![tactic(auto)]
+
 ghost use Rattle.std.specs.Prelude.{false, ◌≡◌, ◌^◌, ◌<◌, length};
 ghost use Rattle.screen_bytes.specs.Put.{Put};
 ghost use Rattle.phrases.specs.Phrases.{line_of};
@@ -7,7 +9,7 @@ ghost use Rattle.phrases.specs.Found.{Placed, Found, Bracketed};
 use screen_bytes::put_text;
 
 // A line of a table: whether there is one, its first byte and its length.
-#[derive(Drop)]
+#[derive(Clone, Copy)]
 pub struct Phrase {
     pub has: bool,
     pub from: usize,
@@ -15,7 +17,7 @@ pub struct Phrase {
 }
 
 // The first bracket of a phrase: where it opens and where it closes; where it does not, the phrase's length.
-#[derive(Drop)]
+#[derive(Clone, Copy)]
 pub struct Bracket {
     pub opens: usize,
     pub closes: usize,

@@ -1,4 +1,6 @@
 // A reader for each argument that is a place or has one: its value, as one of the arguments.
+#![tactic(auto)]
+
 ghost use Rattle.argument_values.specs.Arguments.{Arguments};
 
 use angles::read_latlon;

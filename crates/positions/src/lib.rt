@@ -1,4 +1,6 @@
 // Positions, and the departure clearance, whose last two parts are known from their presence bits alone.
+#![tactic(auto)]
+
 ghost use Rattle.positions.specs.Positions.{Flags, Positions, Departures};
 
 use angles::{Pair, read_latlon};
@@ -8,7 +10,7 @@ use field_ranges::table::{AIRPORT_SIZE, FIX_SIZE, FLIGHT_SIZE, NAVAID_SIZE};
 use named_places::{Named, read_named};
 
 // each with the place of its index
-#[derive(Drop)]
+#[derive(Clone, Copy)]
 pub enum Position {
     Fix(usize, Named),
     Navaid(usize, Named),
@@ -17,14 +19,14 @@ pub enum Position {
     Unread,
 }
 
-#[derive(Drop)]
+#[derive(Clone, Copy)]
 pub struct PositionAt {
     pub position: Position,
     pub c: Cursor,
 }
 
 // information, instructions: 0 where the part is absent; notes_at: where the reading stood, behind the position
-#[derive(Drop)]
+#[derive(Clone, Copy)]
 pub struct Departure {
     pub flight: Text,
     pub position: Position,
@@ -33,7 +35,7 @@ pub struct Departure {
     pub notes_at: usize,
 }
 
-#[derive(Drop)]
+#[derive(Clone, Copy)]
 pub struct DepartureAt {
     pub departure: Departure,
     pub c: Cursor,

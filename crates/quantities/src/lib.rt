@@ -1,4 +1,6 @@
 // A kind, and a number of that kind's range: speeds, levels, degrees.
+#![tactic(auto)]
+
 ghost use Rattle.std.specs.Prelude.{◌≡◌, ◌+◌, ◌≤◌};
 ghost use Rattle.quantities.specs.Readers.{Quantities, index_width};
 ghost use Rattle.quantities.specs.Readers.{Speeds, Levels, Degrees};
@@ -7,7 +9,7 @@ use cursor::place::{Cursor, bits, stop};
 use field_ranges::table::{DEGREES_0, LEVEL_0, SPEED_0, range_at};
 use ranged_numbers::ranged;
 
-#[derive(Drop)]
+#[derive(Clone, Copy)]
 pub struct Quantity {
     pub kind: u64,
     pub kind_at: usize,
@@ -15,7 +17,7 @@ pub struct Quantity {
     pub number_at: usize,
 }
 
-#[derive(Drop)]
+#[derive(Clone, Copy)]
 pub struct QuantityAt {
     pub quantity: Quantity,
     pub c: Cursor,

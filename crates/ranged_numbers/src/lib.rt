@@ -1,4 +1,6 @@
 // Numbers of a range, whose highest is not tested, and names, which are.
+#![tactic(auto)]
+
 ghost use Rattle.std.specs.Prelude.{◌≡◌};
 ghost use Rattle.field_ranges.specs.Ranges.{Listed};
 ghost use Rattle.ranged_numbers.specs.Numbers.{FromLowest, Ranged, Named};

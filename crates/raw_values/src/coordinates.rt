@@ -2,7 +2,7 @@
 use super::sweep::sweep;
 
 // Where an angle begins: the table's byte, the bits before it as a number and how many they are, and the place of its first record.
-#[derive(Drop)]
+#[derive(Clone, Copy)]
 struct Spot {
     byte: u8,
     head: u64,

@@ -4,7 +4,7 @@ use super::reading::put_reading;
 use listing::{put_decimal, put_first, put_hex, put_text, same};
 
 // What a line says of a field: the table's byte, the bits before it as a number and how many they are, and the record with its number.
-#[derive(Drop)]
+#[derive(Clone, Copy)]
 struct Field {
     byte: u8,
     head: u64,

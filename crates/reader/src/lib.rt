@@ -1,4 +1,6 @@
 // One small reader that holds the frame and its bit place, for callers: thin functions above the by-value cursor. Those over the struct are proved by hand; `start` and `next`, on a slice and a cursor, do the work. Whoever wants no struct calls `bits_at`.
+#![tactic(auto)]
+
 ghost use Rattle.std.specs.Prelude.{◌≡◌, ◌≤◌, length};
 ghost use Rattle.reader.specs.Reads.{opened, Took};
 
@@ -7,7 +9,7 @@ use cursor::place::{Cursor, Got, bits, stop};
 use per::room::holds;
 use per::units::Octets;
 
-#[derive(Drop)]
+#[derive(Clone, Copy)]
 pub struct Reader<'a> {
     pub frame: &'a [u8],
     pub c: Cursor,
@@ -75,7 +77,7 @@ impl<'a> Reader<'a> {
     // The next n bits as a number. The reader moves behind them.
     pub fn take(&mut self, n: usize) -> u64
         requires { n ≤ 64 }
-        ensures* { λ v. ⌜ (self.new.frame ≡ self.old.frame) × Took self.old.frame.now self.old.c n (record { v = v; c = self.new.c }) ⌝ }
+        ensures { (self.new.frame ≡ self.old.frame) × Took self.old.frame.now self.old.c n (record { v = result; c = self.new.c }) }
     {
         let g = next(self.frame, self.c, n);
         self.c = g.c;

@@ -5,7 +5,7 @@ pub mod table; // table.rt: the rows
 pub mod hearing; // hearing.rt: from record to record
 
 // A row: a tag, what its record may hold, and where the walk goes.
-#[derive(Drop)]
+#[derive(Clone, Copy)]
 pub struct Row {
     pub tag: u64,
     pub kind: u64,
@@ -19,7 +19,7 @@ pub struct Row {
 
 // Where a walk stands: its row, the rows behind its part and its message, the numbers of element, clearance and place that it has come to,
 // the length of a text with the characters that are still to come, and the values of the last two records.
-#[derive(Drop)]
+#[derive(Clone, Copy)]
 pub struct Walk {
     pub at: u64,
     pub back: u64,

@@ -31,6 +31,7 @@ so_many w i (suc k) = ap suc (so_many w (suc i) k)
 
 this_one : (w : List ℕ) (i k j : ℕ) → j < k → get_or (message.records_from w i k) j (rec 0 0 0 0 0) ≡ words_from w ((i + j) * 5)
 unfolding message.records_from
+this_one w i zero j h = elim h [ ]
 this_one w i (suc k) zero h = let e : i ≡ i + 0 = omega arith in ap (λ (n : ℕ). words_from w (n * 5)) e
 this_one w i (suc k) (suc j) h = let e : suc i + j ≡ i + suc j = omega arith in this_one w (suc i) k j (omega arith) ∙ ap (λ (n : ℕ). words_from w (n * 5)) e
 

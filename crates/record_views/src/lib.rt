@@ -1,4 +1,6 @@
 // Lent words as records. What a record holds behind its second number is passed over.
+#![tactic(auto)]
+
 ghost use Rattle.std.specs.Prelude.{◌≡◌, ◌+◌, ◌<◌, length, get_or};
 ghost use Rattle.atn.specs.Reading.{rec};
 ghost use Rattle.record_views.specs.View.{count, whole, record_at, fetched};
@@ -6,7 +8,7 @@ ghost use Rattle.record_views.specs.View.{count, whole, record_at, fetched};
 use records::space::words_for;
 
 // A record.
-#[derive(Drop)]
+#[derive(Clone, Copy)]
 pub struct Record {
     pub tag: u64,
     pub element: u64,

@@ -1,4 +1,6 @@
 // Records in lent words, one after another from the front. What is told goes through here.
+#![tactic(auto)]
+
 ghost use Rattle.std.specs.Prelude.{◌+◌, ◌^◌, ◌<◌, ◌≤◌, [], ◌∷◌, length};
 ghost use Rattle.atn.specs.Reading.{rec};
 ghost use Rattle.records.specs.Space.{space};

@@ -1,4 +1,6 @@
 // The parts of a clearance at the two ends of its route: airports, runways, procedures.
+#![tactic(auto)]
+
 ghost use Rattle.std.specs.Prelude.{◌<◌, ◌^◌};
 ghost use Rattle.route_ends.specs.Ends.{departure_fields, arrival_fields};
 ghost use Rattle.optional_parts.specs.Parts.{Fields};

@@ -1,4 +1,6 @@
 // The optional parts of a clearance, by their presence bits and first tags: read as values, and told while the reading goes on. They stand outside the elements.
+#![tactic(auto)]
+
 ghost use Rattle.std.specs.Prelude.{◌+◌, ◌<◌, ◌^◌};
 ghost use Rattle.atn.specs.Messages.{ia5 as airport, runway, procedure};
 ghost use Rattle.optional_parts.specs.Parts.{Optional};

@@ -45,7 +45,7 @@ pub fn list_starts(
 }
 
 // How many clean messages follow one another, and the byte up to which they go.
-#[derive(Drop)]
+#[derive(Clone, Copy)]
 struct Found {
     count: usize,
     until: usize,

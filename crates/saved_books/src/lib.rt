@@ -11,7 +11,7 @@ use book_search::count;
 use counted_books::sound_book;
 
 // Wrote: the number of bytes. Refused: the number of the refusal, and the bytes needed, which only 9 has.
-#[derive(Drop)]
+#[derive(Clone, Copy)]
 pub enum Saved {
     Wrote { bytes: usize },
     Refused { number: u64, need: usize },

@@ -5,7 +5,7 @@ pub mod numbers; // numbers.rt: ranged numbers, and names by their places
 pub mod strings; // strings.rt: texts, and fixed bit counts
 
 // Where the reading stands, and the number of records, which stays at 2^64 - 1 once it is there. Of a reading that stopped, the bits that it lacked stand in their place.
-#[derive(Drop)]
+#[derive(Clone, Copy)]
 pub struct Step {
     pub c: Cursor,
     pub n: usize,

@@ -4,7 +4,7 @@ ghost use Rattle.schema_tables.specs.Tests.{first_of, count_of};
 ghost use Rattle.schema_nodes.specs.Row.{IsNode};
 
 // A kind, and what it takes.
-#[derive(Drop)]
+#[derive(Clone, Copy)]
 pub struct Node {
     pub kind: u64,
     pub a: u64,

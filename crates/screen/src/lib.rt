@@ -10,7 +10,7 @@ use screen_text::{have_phrases, put_lines};
 mod places; // places.rt: where fields begin
 
 // How many bytes were written; or document 02's refusal, 13 or 14, and for 14 the bytes needed.
-#[derive(Drop)]
+#[derive(Clone, Copy)]
 pub enum Screen {
     Shown { bytes: usize },
     Refused { number: u64, need: usize },

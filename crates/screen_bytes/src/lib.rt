@@ -1,4 +1,6 @@
 // Bytes of the screen's text, put one behind the other into lent bytes. All text goes through here: what has no room is left out, and counts.
+#![tactic(auto)]
+
 ghost use Rattle.std.specs.Prelude.{[], ◌∷◌, ◌^◌, ◌<◌, length};
 ghost use Rattle.screen_bytes.specs.Put.{Put};
 

@@ -6,7 +6,7 @@ use decimal::number;
 use entry_cases::fields::{field, octets, part};
 
 // What the line asks, or that it is none; how many bytes the phrases have, how many words there are, and how many bytes are lent.
-#[derive(Drop)]
+#[derive(Clone, Copy)]
 pub struct Asked {
     pub good: bool,
     pub downs: usize,
@@ -52,7 +52,7 @@ pub fn read(line: &[u8], down: &mut [u8], up: &mut [u8], words: &mut [u64], most
 }
 
 // Whether all were numbers, and how many.
-#[derive(Drop)]
+#[derive(Clone, Copy)]
 struct Filled {
     good: bool,
     count: usize,

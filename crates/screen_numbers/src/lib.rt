@@ -1,4 +1,6 @@
 // Numbers as text.
+#![tactic(auto)]
+
 ghost use Rattle.std.specs.Prelude.{◌≡◌, ◌^◌, ◌≤◌, ◌<◌};
 ghost use Rattle.screen_bytes.specs.Put.{Put};
 ghost use Rattle.screen_numbers.specs.Numbers.{digit as Numbers·digit, digits, decimal, two_digits, hundredths, thousandths, magnitude as Numbers·magnitude, signed};

@@ -1,4 +1,6 @@
 // Records in lent words, and the texts that they hold.
+#![tactic(auto)]
+
 ghost use Rattle.std.specs.Prelude.{◌≡◌, ◌^◌, ◌≤◌, ◌<◌};
 ghost use Rattle.record_views.specs.View.{records_from};
 ghost use Rattle.screen_bytes.specs.Put.{Put};

@@ -16,7 +16,7 @@ use records::emit;
 use runs::At;
 
 // The index of its alternative, the first bit of the message's string, and the bits of the string. At 0 the frame is none of these, or not in this form.
-#[derive(Drop)]
+#[derive(Clone, Copy)]
 pub struct Send {
     pub index: u64,
     pub at: usize,

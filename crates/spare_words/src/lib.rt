@@ -1,4 +1,6 @@
 // Words that a first reading is lent, and what is taken over from them.
+#![tactic(auto)]
+
 ghost use Rattle.std.specs.Prelude.{◌++◌, ◌≡◌, ◌≤◌, length, drop};
 
 mod front; // front.rt: one record, two, or four

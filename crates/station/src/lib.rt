@@ -10,7 +10,7 @@ use named_entries::entry_of;
 use std::num::wrapping_add_u64;
 
 // Repeated: the calibration number that has the name. Refused: the number of the refusal, the bits that the reading took, 0 where nothing was read, and behind 4 the bits lacked.
-#[derive(Drop)]
+#[derive(Clone, Copy)]
 pub enum Offered {
     Bound,
     Repeated {
@@ -24,7 +24,7 @@ pub enum Offered {
 }
 
 // What a station has counted.
-#[derive(Drop)]
+#[derive(Clone, Copy)]
 pub struct Shift {
     pub offered: u64,
     pub bound: u64,
@@ -33,7 +33,7 @@ pub struct Shift {
 }
 
 // A call's answer, and the shift that has counted it.
-#[derive(Drop)]
+#[derive(Clone, Copy)]
 pub struct Outcome {
     pub answer: Offered,
     pub shift: Shift,

@@ -10,7 +10,7 @@ use per::number::wide;
 use records::emit;
 
 // Where the field starts; the place of the first character's bit, the number of characters, the bits of each, and the code of the first of the alphabet; whether they are told as X.680 has the characters of a NumericString.
-#[derive(Drop)]
+#[derive(Clone, Copy)]
 pub struct Run {
     pub from: usize,
     pub at: usize,

@@ -1,4 +1,6 @@
 // Texts told: their characters are read where they stand in the frame, and put into the lent words eight to a record.
+#![tactic(auto)]
+
 ghost use Rattle.std.specs.Prelude.{◌≡◌, ◌+◌, ◌-◌, ◌*◌, ◌<◌, ◌≤◌, ◌^◌};
 ghost use Rattle.x691.specs.Bits.{bit_of};
 ghost use Rattle.atn.specs.Reading.{octets, units, none_above};

@@ -1,4 +1,6 @@
 // The records of latitudes and longitudes, put into the lent words behind the first n.
+#![tactic(auto)]
+
 ghost use Rattle.std.specs.Prelude.{◌^◌, ◌<◌};
 ghost use Rattle.records.specs.Told.{Told};
 ghost use Rattle.angles.specs.Angles.{angle_recs, unless_absent, pair_recs, maybe_pair_recs};

@@ -1,4 +1,6 @@
 // The records of a frequency, put into the lent words behind the first n. The characters of a channel are read where they stand in the frame s.
+#![tactic(auto)]
+
 ghost use Rattle.std.specs.Prelude.{◌<◌, ◌^◌};
 ghost use Rattle.records.specs.Told.{Told};
 ghost use Rattle.frequencies.specs.Records.{frequency_recs, HeldChannel};

@@ -1,4 +1,6 @@
 // The records of a leg, put into the lent words behind the first n. Texts are read where they stand in the frame s.
+#![tactic(auto)]
+
 ghost use Rattle.std.specs.Prelude.{◌<◌, ◌^◌};
 ghost use Rattle.records.specs.Told.{Told};
 ghost use Rattle.named_places.specs.Names.{Held};

@@ -1,4 +1,6 @@
 // The records of named places, published ones and procedures, put into the lent words behind the first n. A text is in the frame s.
+#![tactic(auto)]
+
 ghost use Rattle.std.specs.Prelude.{◌<◌, ◌^◌};
 ghost use Rattle.character_strings.specs.Texts.{text_recs};
 ghost use Rattle.records.specs.Told.{Told};

@@ -1,4 +1,6 @@
 // The records of positions and of the departure clearance, put into the lent words behind the first n. A text is in the frame s.
+#![tactic(auto)]
+
 ghost use Rattle.std.specs.Prelude.{◌<◌, ◌^◌};
 ghost use Rattle.records.specs.Told.{Told};
 ghost use Rattle.named_places.specs.Names.{Held};

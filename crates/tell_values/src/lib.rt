@@ -1,4 +1,6 @@
 // The records of the small values, put into the lent words behind the first n. Where a value may have several tags they are parameters.
+#![tactic(auto)]
+
 ghost use Rattle.std.specs.Prelude.{◌<◌, ◌^◌};
 ghost use Rattle.records.specs.Told.{Told};
 ghost use Rattle.quantities.specs.Records.{quantity_recs};

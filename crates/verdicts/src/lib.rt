@@ -1,10 +1,12 @@
 // What a reading says before its records are written, and how two readings of one frame go together.
+#![tactic(auto)]
+
 ghost use Rattle.std.specs.Prelude.{◌≡◌, ℕ, ◌+◌, ◌*◌, max, ◌≤◌};
 ghost use Rattle.atn.specs.Entries.{Reply, after_out, after_bad};
 ghost use Rattle.verdicts.specs.Verdicts.{verdict_of};
 
 // `why` is 0 for whole, 7 for cut, and else document 01's number, with 16 times the bits lacked where it ran out, as the cursor has it; behind a refusal marks and count are 0.
-#[derive(Drop)]
+#[derive(Clone, Copy)]
 pub struct Verdict {
     pub why: u64,
     pub reach: usize,

@@ -6,7 +6,7 @@ ghost use Rattle.write_leaves.specs.Index.{Indexes};
 use pens::{Pen, ink, is_record, refuse};
 use per::width::bits_for;
 
-#[derive(Drop)]
+#[derive(Clone, Copy)]
 pub struct Indexed {
     pub v: u64,
     pub p: Pen,

@@ -20,7 +20,7 @@ use write_steps::lead::lead;
 use write_steps::meet::meet;
 
 // A list's members, so many of them.
-#[derive(Drop)]
+#[derive(Clone, Copy)]
 pub struct Repeated {
     pub p: Pen,
     pub count: usize,

@@ -1,4 +1,6 @@
 // Numbers and names: each is one record, and the bits of what it is above its lowest.
+#![tactic(auto)]
+
 ghost use Rattle.std.specs.Prelude.{◌≡◌, ℕ, ◌*◌, ◌^◌, ◌<◌, ◌≤◌, false, [], ◌∷◌, length};
 ghost use Rattle.atn.specs.Format.{num, listed, name};
 ghost use Rattle.record_lists.specs.Kinds.{span_tag};

@@ -1,4 +1,6 @@
 // Strings that lists tell by spans, written: their bits stand in other bytes, where the spans point. A span is a record of its tag, its element number, its first bit and its number of bits.
+#![tactic(auto)]
+
 ghost use Rattle.std.specs.Prelude.{◌≡◌, true, ℕ, ◌*◌, ◌^◌, ◌≤◌, ◌<◌, length};
 ghost use Rattle.x691.specs.Bits.{bit_of};
 ghost use Rattle.atn.specs.Format.{span, any_span};

@@ -11,7 +11,7 @@ use pens::{Pen, ink, refuse, take};
 use write_leaves::index::write_index;
 
 // The part's node, the number of the element that it stands in, and the pen before it.
-#[derive(Drop)]
+#[derive(Clone, Copy)]
 pub struct Led {
     pub k: usize,
     pub x: u64,

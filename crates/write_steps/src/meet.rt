@@ -10,7 +10,7 @@ use pens::places::put_at;
 use pens::{Pen, is_record, is_tagged};
 
 // Whether the member is there, its node, the place of the next presence bit, and the pen.
-#[derive(Drop)]
+#[derive(Clone, Copy)]
 pub struct Met {
     pub there: bool,
     pub k: usize,

@@ -1,4 +1,6 @@
 // Texts written: the size, and then each character by its place in its alphabet. A list of records that shows no such text is refused.
+#![tactic(auto)]
+
 ghost use Rattle.std.specs.Prelude.{◌≡◌, false, ℕ, ◌+◌, ◌*◌, ◌^◌, ◌≤◌, ◌<◌, length};
 ghost use Rattle.atn.specs.Format.{text, first};
 ghost use Rattle.record_lists.specs.Kinds.{span_tag};

@@ -1,0 +1,7 @@
+use Rattle.field_ranges.specs.Ends.{highest}
+use Rattle.argument_values.specs.Arguments.{argument_body, argument_recs, HeldArgument}
+use Rattle.name_arguments.proofs.clearance_type.Goals as goal
+
+pub returns : goal.returns
+unfolding argument_body argument_recs HeldArgument highest
+returns c = record { reads = c.read_clearance_type-x.ensures.reads 62; held = tt }

@@ -1,0 +1,7 @@
+use Rattle.field_ranges.specs.Ends.{highest}
+use Rattle.argument_values.specs.Arguments.{argument_body, argument_recs, HeldArgument}
+use Rattle.name_arguments.proofs.facility_function.Goals as goal
+
+pub returns : goal.returns
+unfolding argument_body argument_recs HeldArgument highest
+returns c = record { reads = c.read_facility_function-x.ensures.reads 64; held = tt }

@@ -1,0 +1,6 @@
+use Rattle.argument_values.specs.Arguments.{argument_body, argument_recs, HeldArgument}
+use Rattle.number_arguments.proofs.frequency.Goals as goal
+
+pub returns : goal.returns
+unfolding argument_body argument_recs HeldArgument
+returns c = record { reads = c.read_frequency-x.ensures.reads; held = c.read_frequency-x.ensures.held }

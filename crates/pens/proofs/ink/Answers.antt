@@ -1,0 +1,22 @@
+use mathlib.Core.Path.{refl}
+use borrow.Author.Rules.{rules}
+use Rattle.pens.proofs.PenLaws.{ink_far, ink-near}
+use Rattle.pens.proofs.ink.Reads as reads
+use Rattle.pens.proofs.ink.Lts as lts
+use Rattle.bit_writer.proofs.number.put.Reads as put_reads
+use Rattle.pens.proofs.ink.Goals as goal
+
+pub returns-then-at-gt-LIMIT : goal.returns-then-at-gt-LIMIT
+returns-then-at-gt-LIMIT c = ink_far _ _ _ _ _ c.if-at-gt-LIMIT.true
+
+pub put-requires : goal.put-requires
+put-requires c = search rules
+
+pub overflow_add-result : goal.overflow_add-result
+overflow_add-result c = search rules
+
+pub shape_of-out : goal.shape_of-out
+shape_of-out c = search rules
+
+pub returns : goal.returns
+returns c = ink-near _ _ _ _ _ _ refl refl refl c.put.ensures

@@ -1,0 +1,23 @@
+use Rattle.std.proofs.Common.{◌≡◌, ◌-◌, ◌/◌, true, false, length, sym, refl, ◌∙◌, arith, rules}
+use borrow.Author.Tests.{not-true, not-false}
+use Rattle.schema_tables.specs.Tests.{link_fits}
+use Rattle.schema_nodes.proofs.TestLaws.{below_none, below_next, below_fails, links_empty, links_all}
+use Rattle.schema_nodes.proofs.refusal.links_fit.Goals as goal
+
+pub returns-then-n-eq0 : goal.returns-then-n-eq0
+returns-then-n-eq0 c = links_empty _ refl c.if-n-eq0.true
+
+pub loop-k-init : goal.loop-k-init
+loop-k-init c = (omega arith, below_none (λ j. link_fits c.args.nodes.now j))
+
+pub link_fits-requires : goal.link_fits-requires
+link_fits-requires c = search rules
+
+pub overflow_add-k : goal.overflow_add-k
+overflow_add-k c = search rules
+
+pub loop-k-smaller : goal.loop-k-smaller
+loop-k-smaller c = omega arith
+
+pub returns : goal.returns
+returns c = let e : c.loop-k.k ≡ length c.args.nodes.now / 4 = omega (arith, c.loop-k-test.false) in links_all c.args.nodes.now e (λ z. c.if-n-eq0.false (omega arith)) c.loop-k.invariant.1

@@ -1,0 +1,10 @@
+use Rattle.screen_bytes.proofs.Putting.{put_then, put-length}
+use Rattle.screen_numbers.specs.Numbers.{thousandths}
+use Rattle.screen_numbers.proofs.put_thousandths.Goals as goal
+
+pub returns : goal.returns
+unfolding thousandths
+returns c = rw (← c.digit.ensures, ← c.digit-2.ensures, ← c.digit-3.ensures) (put_then c.put_decimal-a.ensures (put_then c.put_byte-b.ensures (put_then c.put_byte-c.ensures (put_then c.put_byte-d.ensures c.put_byte.ensures))))
+
+pub shape_of-out : goal.shape_of-out
+shape_of-out c = put-length (returns c)

@@ -1,0 +1,7 @@
+use Rattle.std.proofs.Common.{◌+◌, ◌*◌, arith}
+use Rattle.write_numbers.proofs.NumberLaws.{name-written}
+use Rattle.write_numbers.proofs.write_name.Goals as goal
+
+pub returns : goal.returns
+returns c =
+    λ b y. name-written b _ _ _ _ y _ _ (omega (arith, c.type_inv.words (c.args.p.next * 5 + 2))) (c.write_number.ensures b y)
