@@ -1,4 +1,6 @@
 // Association control: `parse_acse_apdu`. The message is read as a value first, and its records, three at most, are written once it is known that they fit.
+#![tactic(auto)]
+
 ghost use Rattle.atn.specs.Entries.{parse-acse-apdu};
 ghost use Rattle.answers.specs.Says.{Says};
 

@@ -1,4 +1,6 @@
 // The message: an extension bit, the index of one of five, and its body.
+#![tactic(auto)]
+
 ghost use Rattle.std.specs.Prelude.{◌≡◌, ◌≤◌, length};
 ghost use Rattle.acse_apdus.specs.Apdus.{heard_of, Hears};
 

@@ -1,4 +1,6 @@
 // A leg of a route whose bits are all ahead: read and told at once. What it cannot read is given up: two places without the octets for both, an alternative that is not listed or not supplied, an angle of an unlisted form, a designator above its range.
+#![tactic(auto)]
+
 ghost use Rattle.std.specs.Prelude.{◌+◌, ◌*◌, ◌^◌, ◌≤◌, ◌<◌, length};
 ghost use Rattle.records.specs.Space.{space};
 ghost use Rattle.ample_bits.specs.Ahead.{Ahead};

@@ -5,23 +5,25 @@ ghost use Rattle.line_flow.specs.Flow.{Runs};
 use line_flow::Flow;
 use line_input::frames::next;
 use line_output::output::put;
+use std::io::Stdin;
 
 mod frames; // frames.rt: a frame and its answer
 
-fn main() {
+fn main(rt: HostRuntime) {
+    let mut stdin = rt.stdin();
     let mut taken = io::large_buffer();
     let mut gathered = io::large_buffer();
     let mut frame = [0u8; 65536];
     let mut words = [0u64; 8192];
-    all(&mut taken, &mut gathered, &mut frame, &mut words);
+    all(&mut stdin, &mut taken, &mut gathered, &mut frame, &mut words);
 }
 
 // Nothing says that the input ends, so its lines are counted down from a number that no run uses up.
-fn all(taken: &mut [u8], gathered: &mut [u8], frame: &mut [u8], words: &mut [u64]) {
+fn all(stdin: &mut Stdin, taken: &mut [u8], gathered: &mut [u8], frame: &mut [u8], words: &mut [u64]) {
     let mut flow = line_flow::start();
     let mut turns = u64::MAX;
     while 0 < turns {
-        flow = turn(taken, gathered, frame, words, flow);
+        flow = turn(stdin, taken, gathered, frame, words, flow);
         if !flow.on {
             return;
         }
@@ -31,6 +33,7 @@ fn all(taken: &mut [u8], gathered: &mut [u8], frame: &mut [u8], words: &mut [u64
 
 // A line and its answer. A line with more characters than two an octet of `frame` has no frame that is short enough, whatever they are.
 fn turn(
+    stdin: &mut Stdin,
     taken: &mut [u8],
     gathered: &mut [u8],
     frame: &mut [u8],
@@ -42,7 +45,7 @@ fn turn(
 {
     let input = flow.input;
     let output = flow.output;
-    let l = next(taken, input, frame);
+    let l = next(stdin, taken, input, frame);
     let rest = l.rest;
     let digits = l.digits;
     if l.none {

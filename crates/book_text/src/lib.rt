@@ -1,4 +1,6 @@
 // A saved book, line by line.
+#![tactic(auto)]
+
 ghost use Rattle.std.specs.Prelude.{◌≡◌, ◌≤◌, ◌<◌, length};
 ghost use Rattle.book_text.specs.Cuts.{Feed, Cut};
 

@@ -1,4 +1,6 @@
 // Records in lent words, however many: their number stays at 2^64 - 1 once it is there.
+#![tactic(auto)]
+
 ghost use Rattle.std.specs.Prelude.{[], ◌∷◌};
 ghost use Rattle.atn.specs.Reading.{rec};
 ghost use Rattle.capped_records.specs.Place.{Put};

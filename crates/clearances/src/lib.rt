@@ -1,6 +1,8 @@
 // A route clearance: nine presence bits, those past the window's end absent, and the parts that they say are there.
 //
 // A part is read as a value, and its records are told while the reading goes on. So what fails may have told the parts before it: the caller drops those.
+#![tactic(auto)]
+
 ghost use Rattle.std.specs.Prelude.{◌≡◌, ◌+◌, ◌<◌, ◌^◌};
 ghost use Rattle.x691.specs.Bits.{bit_of};
 ghost use Rattle.atn.specs.Reading.{read};

@@ -1,4 +1,6 @@
 // Context Management: `parse_cm`. A message is told as it is read, into spare words first, so that a refusal leaves the lent ones and the number of records is known before any is written.
+#![tactic(auto)]
+
 ghost use Rattle.std.specs.Prelude.{◌≡◌, ◌≤◌, length};
 ghost use Rattle.atn.specs.Entries.{parse-cm, read_frame, settle};
 ghost use Rattle.answers.specs.Says.{Says};

@@ -1,4 +1,6 @@
 // Octets that are told by where they stand, and the transport address that is made of them.
+#![tactic(auto)]
+
 ghost use Rattle.std.specs.Prelude.{List, ℕ, ◌<◌, ◌^◌};
 ghost use Rattle.atn.specs.Messages.{octet_span, long_tsap};
 ghost use Rattle.atn.specs.Tags.{ars, loc_sys_nsel_tsel};

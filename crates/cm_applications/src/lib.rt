@@ -1,4 +1,6 @@
 // Lists of applications, with their addresses or without.
+#![tactic(auto)]
+
 ghost use Rattle.std.specs.Prelude.{[], ◌∷◌, ◌<◌, ◌^◌};
 ghost use Rattle.atn.specs.Reading.{rec};
 ghost use Rattle.atn.specs.Tags.{ae_qualifier, ap_version};

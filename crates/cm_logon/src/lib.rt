@@ -1,4 +1,6 @@
 // Logon requests and responses.
+#![tactic(auto)]
+
 ghost use Rattle.std.specs.Prelude.{List, ℕ, ◌<◌, ◌^◌};
 ghost use Rattle.atn.specs.Messages.{etd, unsupplied, cm_logon_request, cm_logon_response};
 ghost use Rattle.cursor.specs.Place.{Takes};

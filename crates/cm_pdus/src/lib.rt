@@ -1,4 +1,6 @@
 // The messages of the two sides: an extension bit, an index, and the message that it names.
+#![tactic(auto)]
+
 ghost use Rattle.std.specs.Prelude.{◌<◌, ◌^◌};
 ghost use Rattle.atn.specs.Format.{choice};
 ghost use Rattle.atn.specs.Tags.{cm_ground_pdu, cm_aircraft_pdu};

@@ -1,4 +1,6 @@
 // A book with the number of its free places in front, in two words: its test, emptying, and the number set and read.
+#![tactic(auto)]
+
 ghost use Rattle.std.specs.Prelude.{◌≡◌, cond, ◌+◌, ◌*◌, ◌/◌, ◌-◌, ◌≤◌, length, drop};
 ghost use Rattle.std.proofs.Math.Option.{none, some};
 ghost use Rattle.book_entries.specs.Book.{entries};

@@ -1,4 +1,6 @@
 // A number in decimal.
+#![tactic(auto)]
+
 ghost use Rattle.std.specs.Prelude.{false, ◌≡◌};
 ghost use Rattle.decimal.specs.Decimal.{Reads};
 

@@ -1,4 +1,6 @@
 // The elements of a list of records: what kind of argument each has, and that an index has one.
+#![tactic(auto)]
+
 ghost use Rattle.std.specs.Prelude.{◌≡◌, ◌+◌, ◌^◌, ◌<◌};
 ghost use Rattle.record_views.specs.View.{record_at, records_from};
 ghost use Rattle.element_kinds.specs.Kinds.{kind_by, kind_of};

@@ -1,4 +1,6 @@
 // The element walk: an index into the lent table, then the argument that its byte names. An argument that cannot be read leaves its element without fields and stops the walk.
+#![tactic(auto)]
+
 ghost use Rattle.std.specs.Prelude.{◌+◌, ◌*◌, ◌^◌, ◌≤◌, ◌<◌, length};
 ghost use Rattle.elements.specs.Elements.{argument_at, element_at, elements_at};
 ghost use Rattle.runs.specs.Runs.{Runs};

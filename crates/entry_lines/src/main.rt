@@ -6,8 +6,10 @@ use entry_names::Entry;
 use line_flow::Flow;
 use line_input::input::next;
 use line_output::output::{Output, put};
+use std::io::Stdin;
 
-fn main() {
+fn main(rt: HostRuntime) {
+    let mut stdin = rt.stdin();
     let mut taken = io::large_buffer();
     let mut gathered = io::large_buffer();
     let mut line = [0u8; 140000];
@@ -16,6 +18,7 @@ fn main() {
     let mut frame = [0u8; 66000];
     let mut words = [0u64; 65536];
     all(
+        &mut stdin,
         &mut taken,
         &mut gathered,
         &mut line,
@@ -28,6 +31,7 @@ fn main() {
 
 // Nothing says that the input ends, so its lines are counted down from a number that no run uses up.
 fn all(
+    stdin: &mut Stdin,
     taken: &mut [u8],
     gathered: &mut [u8],
     line: &mut [u8],
@@ -39,7 +43,7 @@ fn all(
     let mut flow = line_flow::start();
     let mut turns = u64::MAX;
     while 0 < turns {
-        flow = turn(taken, gathered, line, down, up, frame, words, flow);
+        flow = turn(stdin, taken, gathered, line, down, up, frame, words, flow);
         if !flow.on {
             return;
         }
@@ -49,6 +53,7 @@ fn all(
 
 // A line and its answer.
 fn turn(
+    stdin: &mut Stdin,
     taken: &mut [u8],
     gathered: &mut [u8],
     line: &mut [u8],
@@ -63,7 +68,7 @@ fn turn(
 {
     let input = flow.input;
     let output = flow.output;
-    let l = next(taken, input, line);
+    let l = next(stdin, taken, input, line);
     let rest = l.rest;
     if l.none {
         return line_flow::ended(gathered, rest, output);

@@ -1,4 +1,6 @@
 // The four entries by name.
+#![tactic(auto)]
+
 ghost use Rattle.std.specs.Prelude.{◌≡◌};
 ghost use Rattle.entry_names.specs.Names.{Names, is_entry, is_directed};
 

@@ -1,4 +1,6 @@
 // The list of legs. As long as a leg has all its bits ahead and room for all its records, it is read and told at once. From the first leg on that is not, each is read as a value, and its records are told while the reading goes on.
+#![tactic(auto)]
+
 ghost use Rattle.std.specs.Prelude.{◌≡◌, true, ◌*◌, ◌≤◌, ◌<◌, ◌^◌};
 ghost use Rattle.x691.specs.Bits.{bit_of};
 ghost use Rattle.atn.specs.Format.{many};

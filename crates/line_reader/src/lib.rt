@@ -1,4 +1,6 @@
 // A line of a saved book, read.
+#![tactic(auto)]
+
 ghost use Rattle.std.specs.Prelude.{◌≡◌, ◌^◌, ◌≤◌, ◌<◌, length};
 ghost use Rattle.book_lines.specs.Lines.{value as Lines·value, entry_of, checked as Lines·checked, entry};
 ghost use Rattle.line_reader.specs.Reads.{Number, found};

@@ -1,4 +1,6 @@
 // A saved book loaded, in place of what was held.
+#![tactic(auto)]
+
 ghost use Rattle.std.specs.Prelude.{◌≡◌, not, List, [], ◌≤◌, length, drop, replicate};
 ghost use Rattle.std.proofs.Math.Option.{some};
 ghost use Rattle.book_entries.specs.declared.Entry.{Entry as Specs-as-Entry};

@@ -1,4 +1,6 @@
 // The day's name book: which frame had which aircraft identifier first. It lies in lent words: the number of free places, and four words to an entry.
+#![tactic(auto)]
+
 ghost use Rattle.std.specs.Prelude.{◌≡◌};
 ghost use Rattle.std.proofs.Math.Option.{some};
 ghost use Rattle.book_entries.specs.Book.{entries, listed};

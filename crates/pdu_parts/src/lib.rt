@@ -1,4 +1,6 @@
 // Parts of the message choice that have no message in them: reasons, and the alternative that is known from its index alone.
+#![tactic(auto)]
+
 ghost use Rattle.std.specs.Prelude.{◌≡◌, ◌≤◌, ◌<◌, ◌^◌, length};
 ghost use Rattle.field_ranges.specs.Ranges.{Listed};
 ghost use Rattle.pdu_parts.specs.Parts.{reason_at, extension_at};

@@ -1,4 +1,6 @@
 // Whether lent words are records that a reading gives: their order, their element numbers, and what each can hold.
+#![tactic(auto)]
+
 pub mod octets; // octets.rt: the octets of a word as characters
 pub mod rows; // rows.rt: rows, and which records one takes
 pub mod table; // table.rt: the rows

@@ -1,4 +1,6 @@
 // A book saved as lines: name, frame number and frame length in upper-case hexadecimal, by rising frame number.
+#![tactic(auto)]
+
 ghost use Rattle.std.specs.Prelude.{◌≡◌, true, ◌≤◌, length};
 ghost use Rattle.book_entries.specs.Book.{entries, orderly};
 ghost use Rattle.book_lines.specs.Lines.{saved, put};

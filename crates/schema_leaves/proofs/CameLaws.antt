@@ -1,16 +1,16 @@
 -- Parts that are read and told, put together: behind a number, one after another.
-use Rattle.std.proofs.Common.{◌≡◌, ℕ, ◌+◌, ◌-◌, ◌*◌, ◌/◌, ◌%◌, ◌^◌, ◌<◌, ◌≤◌, List, [], ◌∷◌, ◌++◌, length, sym, refl, ap, ◌∙◌, arith, length-append}
+use Rattle.std.proofs.Common.{◌≡◌, ℕ, ◌+◌, ◌-◌, ◌*◌, ◌/◌, ◌%◌, ◌≤◌, List, [], ◌∷◌, ◌++◌, length, sym, refl, ◌∙◌, arith, length-append}
 use Rattle.x691.specs.Bits.{bit_of, uint}
 use Rattle.atn.specs.Format.{Why, out}
-use Rattle.atn.specs.Reading.{Rec, rec, Ans, ok, past, stop, or, glue, then, pull}
-use Rattle.atn.proofs.Marks.{or_assoc, or_nil}
+use Rattle.atn.specs.Reading.{Rec, Ans, ok, stop, or, glue, then, pull}
+use Rattle.atn.proofs.Marks.{or_assoc}
 use Rattle.atn.proofs.Steps.{pull_go, pull_no}
 use Rattle.cursor.specs.declared.place.Cursor.{Cursor}
 use Rattle.cursor.specs.declared.place.Got.{Got}
-use Rattle.cursor.specs.Place.{number, put, Inside, Pulled, stuck, short, got, Pulls}
+use Rattle.cursor.specs.Place.{put, Pulled, stuck, short, got, Pulls}
 use Rattle.schema_tables.specs.Entry.{top}
-use Rattle.capped_records.specs.Place.{counted, place_one, place, Put}
-use Rattle.capped_records.proofs.PlaceLaws.{place-length, one-length, place-append, place-capped, counted_none, counted-then, counted-top}
+use Rattle.capped_records.specs.Place.{counted, place, Put}
+use Rattle.capped_records.proofs.PlaceLaws.{place-length, place-append, place-capped, counted_none, counted-then, counted-top}
 use Rattle.schema_leaves.specs.declared.Step.{Step}
 use Rattle.schema_leaves.specs.Came.{Open, refusal, lacked, Came, went, failed}
 

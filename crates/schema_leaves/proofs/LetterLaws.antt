@@ -1,5 +1,5 @@
 -- The records of a text, one after another, and eight characters as one number.
-use Rattle.std.proofs.Common.{◌≡◌, ℕ, zero, suc, ◌+◌, ◌-◌, ◌*◌, ◌/◌, ◌^◌, ◌<◌, ◌≤◌, Bool, true, false, ltb, List, [], ◌∷◌, ◌++◌, length, get_or, take, drop, sym, refl, ap, ◌∙◌, add-zero, suc-mul, suc-add, zero-add, zero-mul, arith, get_or-take, ltb-false, ltb-true}
+use Rattle.std.proofs.Common.{◌≡◌, ℕ, zero, suc, ◌+◌, ◌-◌, ◌*◌, ◌/◌, ◌^◌, ◌<◌, ◌≤◌, Bool, true, false, ltb, List, [], ◌∷◌, length, get_or, take, drop, sym, refl, ap, ◌∙◌, suc-mul, suc-add, zero-mul, arith, get_or-take, ltb-false, ltb-true}
 use lib.Seq.{drop-nil}
 use Rattle.x691.specs.Bits.{bit_of, uint}
 use Rattle.atn.specs.Reading.{Rec, rec, octets, packs, pack, units}
@@ -7,11 +7,10 @@ use Rattle.atn.specs.Entries.{flat, need}
 use Rattle.records.specs.Space.{size, space}
 use Rattle.records.specs.Told.{Told}
 use Rattle.records.proofs.Telling.{told-first}
-use Rattle.character_strings.specs.declared.Text.{Text}
 use Rattle.character_strings.specs.Texts.{text_recs, InFrame}
 use Rattle.schema_tables.specs.Entry.{top}
-use Rattle.capped_records.specs.Place.{counted, place_one, place, Put}
-use Rattle.capped_records.proofs.PlaceLaws.{place-capped, place-length, one-length, counted_none, counted-then}
+use Rattle.capped_records.specs.Place.{counted, place, Put}
+use Rattle.capped_records.proofs.PlaceLaws.{place-capped, one-length, counted_none, counted-then}
 use Rattle.schema_leaves.specs.Came.{Placed}
 
 module _ (b : ℕ → ℕ) (w : ℕ) where

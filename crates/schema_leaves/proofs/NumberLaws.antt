@@ -1,21 +1,20 @@
 -- Ranged numbers, and names by their places.
-use Rattle.std.proofs.Common.{◌≡◌, ℕ, ◌+◌, ◌-◌, ◌/◌, ◌%◌, ◌^◌, ◌<◌, ◌≤◌, true, false, eqb, leb, List, [], ◌∷◌, length, sym, refl, ap, ◌∙◌, arith, eq-eqb, le-leb}
+use Rattle.std.proofs.Common.{◌≡◌, ℕ, ◌+◌, ◌/◌, ◌%◌, ◌^◌, ◌<◌, ◌≤◌, leb, List, [], ◌∷◌, sym, refl, ap, ◌∙◌, arith, eq-eqb, le-leb}
 use borrow.Author.Tests.{lt-leb}
-use Rattle.x691.specs.Bits.{bit_of, uint}
+use Rattle.x691.specs.Bits.{bit_of}
 use Rattle.x691.specs.Types.{extent}
 use Rattle.x691.specs.Encoding.{width}
 use Rattle.atn.specs.Format.{num, name, bad}
-use Rattle.atn.specs.Reading.{Rec, rec, Ans, ok, stop, or, mark, over, unless, word, guard, read}
+use Rattle.atn.specs.Reading.{rec, Ans, ok, or, mark, over, unless, word, guard, read}
 use Rattle.atn.proofs.Marks.{or_nil}
 use Rattle.atn.proofs.Steps.{over_in}
 use Rattle.cursor.specs.declared.place.Cursor.{Cursor}
 use Rattle.cursor.specs.declared.place.Got.{Got}
-use Rattle.cursor.specs.Place.{number, put, stopped, marked, Pulls}
-use Rattle.schema_tables.specs.Entry.{top}
+use Rattle.cursor.specs.Place.{put, stopped, marked, Pulls}
 use Rattle.capped_records.specs.Place.{Put}
 use Rattle.schema_leaves.specs.declared.Step.{Step}
-use Rattle.schema_leaves.specs.Came.{Open, Came, went, failed}
-use Rattle.schema_leaves.proofs.CameLaws.{at, came_told, came_stopped, came_short, came_pull, came_same, There, there, open-pull}
+use Rattle.schema_leaves.specs.Came.{Open, Came}
+use Rattle.schema_leaves.proofs.CameLaws.{at, came_told, came_stopped, came_short, came_pull, there}
 
 -- the extent of a range by the code's difference
 pub extent_of : (lo hi d : ℕ) → lo < 2 ^ 64 → d < 2 ^ 64 → (d + lo) % 2 ^ 64 ≡ hi → d ≡ extent lo hi

@@ -10,7 +10,7 @@ use Rattle.atn.proofs.Steps.{pull_go, pull_no, then-nil, over_in}
 use Rattle.character_strings.proofs.TextLaws.{coded-nil, letters-all, letters_out}
 use Rattle.cursor.specs.declared.place.Cursor.{Cursor}
 use Rattle.cursor.specs.declared.place.Got.{Got}
-use Rattle.cursor.specs.Place.{number, put, stopped, marked, Pulls}
+use Rattle.cursor.specs.Place.{put, stopped, marked, Pulls}
 use Rattle.capped_records.specs.Place.{Put}
 use Rattle.schema_leaves.specs.declared.Step.{Step}
 use Rattle.schema_leaves.specs.Came.{Open, Came, went, failed, Placed}

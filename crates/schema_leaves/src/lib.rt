@@ -1,4 +1,6 @@
 // The parts of a table that hold no others: what is read is told as it is read.
+#![tactic(auto)]
+
 use cursor::place::Cursor;
 
 pub mod numbers; // numbers.rt: ranged numbers, and names by their places

@@ -35,10 +35,6 @@ module _ (n kind : ℕ) (R : List Rec) (p : List ℕ) {b : Bracket} (h : n ≡ 0
       let c : close p < length p = rw f.close-is at l in
       ap (λ (k : ℕ). fill (values k kind R) p) one_more ∙ rw (lt-ltb (close p) (length p) c, tail p (b.closes + 1), f.open_is, f.close-is)
 
--- a number that is none of those below n, nor n
-pub further : (n : ℕ) {k : ℕ} → n ≤ k → (k ≡ n → ⊥) → n + 1 ≤ k
-further n l h = omega arith
-
 -- how long the parts of a phrase are, before its first bracket and behind it
 pub front : {p : List ℕ} {b : Bracket} → Bracketed p b → length (take b.opens p) ≡ b.opens
 front {p} {b} f = length-take-le b.opens p (omega (arith, f.order, f.within))

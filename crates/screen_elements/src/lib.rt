@@ -1,4 +1,6 @@
 // The line of an element: its phrase, with the brackets filled from its argument's records.
+#![tactic(auto)]
+
 ghost use Rattle.std.specs.Prelude.{◌≡◌, ◌+◌, ◌*◌, ◌^◌, ◌≤◌, ◌<◌, length};
 ghost use Rattle.screen_bytes.specs.Put.{Put};
 ghost use Rattle.phrases.specs.Phrases.{fill};

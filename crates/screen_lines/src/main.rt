@@ -7,10 +7,12 @@ use line_input::input::next;
 use line_output::output::{Output, put};
 use lines::said::labelled;
 use screen::{Screen, screen_lines};
+use std::io::Stdin;
 
 mod asked; // asked.rt: what a line asks
 
-fn main() {
+fn main(rt: HostRuntime) {
+    let mut stdin = rt.stdin();
     let mut taken = io::large_buffer();
     let mut gathered = io::large_buffer();
     let mut line = [0u8; 262144];
@@ -19,6 +21,7 @@ fn main() {
     let mut words = [0u64; 32768];
     let mut text = [0u8; 65536];
     all(
+        &mut stdin,
         &mut taken,
         &mut gathered,
         &mut line,
@@ -31,6 +34,7 @@ fn main() {
 
 // Nothing says that the input ends, so its lines are counted down from a number that no run uses up.
 fn all(
+    stdin: &mut Stdin,
     taken: &mut [u8],
     gathered: &mut [u8],
     line: &mut [u8],
@@ -42,7 +46,7 @@ fn all(
     let mut flow = line_flow::start();
     let mut turns = u64::MAX;
     while 0 < turns {
-        flow = turn(taken, gathered, line, down, up, words, text, flow);
+        flow = turn(stdin, taken, gathered, line, down, up, words, text, flow);
         if !flow.on {
             return;
         }
@@ -52,6 +56,7 @@ fn all(
 
 // A line and its answer.
 fn turn(
+    stdin: &mut Stdin,
     taken: &mut [u8],
     gathered: &mut [u8],
     line: &mut [u8],
@@ -66,7 +71,7 @@ fn turn(
 {
     let input = flow.input;
     let output = flow.output;
-    let l = next(taken, input, line);
+    let l = next(stdin, taken, input, line);
     let rest = l.rest;
     if l.none {
         return line_flow::ended(gathered, rest, output);

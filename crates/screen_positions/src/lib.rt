@@ -1,4 +1,6 @@
 // The text of positions and of the departure clearance, whose records start at record i of the lent words.
+#![tactic(auto)]
+
 ghost use Rattle.std.specs.Prelude.{◌≡◌, ◌^◌, ◌≤◌, ◌<◌};
 ghost use Rattle.screen_bytes.specs.Put.{Put};
 ghost use Rattle.record_views.specs.View.{records_from};

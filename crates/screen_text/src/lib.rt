@@ -1,4 +1,6 @@
 // The lines of the elements of a list of records.
+#![tactic(auto)]
+
 ghost use Rattle.std.specs.Prelude.{◌≡◌, ◌+◌, ◌*◌, ◌^◌, ◌≤◌, ◌<◌, length, take, drop};
 ghost use Rattle.phrases.specs.Found.{Found};
 ghost use Rattle.phrases.specs.Phrases.{line_of};

@@ -1,4 +1,6 @@
 // The text of arguments that are numbers, enumerations, procedures and runways. An argument's records start at record i of the lent words.
+#![tactic(auto)]
+
 ghost use Rattle.std.specs.Prelude.{◌+◌, ◌^◌, ◌<◌, length};
 ghost use Rattle.screen_bytes.specs.Put.{Put};
 ghost use Rattle.record_views.specs.View.{records_from};

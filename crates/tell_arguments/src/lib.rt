@@ -1,4 +1,6 @@
 // The records of an argument.
+#![tactic(auto)]
+
 ghost use Rattle.std.specs.Prelude.{◌<◌, ◌^◌};
 ghost use Rattle.records.specs.Told.{Told};
 ghost use Rattle.argument_values.specs.Arguments.{HeldArgument, argument_recs};

@@ -1,4 +1,6 @@
 // What the lent words hold before a call, so that a word that should have stayed is known afterwards. Each place has another number.
+#![tactic(auto)]
+
 ghost use Rattle.std.specs.Prelude.{true, ◌≡◌, ◌*◌, ◌≤◌, length};
 ghost use Rattle.word_pattern.specs.Pattern.{Patterned};
 

@@ -24,3 +24,9 @@ loop-k-smaller c = omega arith
 
 pub returns : goal.returns
 returns c = let e : c.loop-k.k ≡ length c.args.nodes.now / 4 = omega (arith, c.loop-k-test.false) in kinds-all c.args.nodes.now c.if-nodes-ne0.false e c.loop-k.invariant.1
+
+pub returns-then-not-kind_fits : goal.returns-then-not-kind_fits
+returns-then-not-kind_fits c = kinds-all c.args.nodes.now c.if-nodes-ne0.false refl (below_fails (λ j. node-fits c.args.nodes.now j) c.loop-k.k _ c.loop-k-test.true (node_kind c.args.nodes.now c.loop-k.k c.node_at.ensures c.kind_fits.ensures ∙ c.if-not-kind_fits.true))
+
+pub loop-k-preserved : goal.loop-k-preserved
+loop-k-preserved c = (omega arith, below_next (λ j. node-fits c.args.nodes.now j) c.loop-k.k c.loop-k.invariant.1 (node_kind c.args.nodes.now c.loop-k.k c.node_at.ensures c.kind_fits.ensures ∙ c.if-not-kind_fits.false))

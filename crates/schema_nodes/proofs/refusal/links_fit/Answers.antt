@@ -21,3 +21,9 @@ loop-k-smaller c = omega arith
 
 pub returns : goal.returns
 returns c = let e : c.loop-k.k ≡ length c.args.nodes.now / 4 = omega (arith, c.loop-k-test.false) in links_all c.args.nodes.now e (λ z. c.if-n-eq0.false (omega arith)) c.loop-k.invariant.1
+
+pub returns-then-not-link_fits : goal.returns-then-not-link_fits
+returns-then-not-link_fits c = links_all c.args.nodes.now refl c.if-n-eq0.false (below_fails (λ j. link_fits c.args.nodes.now j) c.loop-k.k _ c.loop-k-test.true (sym c.link_fits.ensures ∙ c.if-not-link_fits.true))
+
+pub loop-k-preserved : goal.loop-k-preserved
+loop-k-preserved c = (omega arith, below_next (λ j. link_fits c.args.nodes.now j) c.loop-k.k c.loop-k.invariant.1 (sym c.link_fits.ensures ∙ c.if-not-link_fits.false))
