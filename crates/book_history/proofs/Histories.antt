@@ -7,14 +7,14 @@ use Rattle.book_entries.specs.declared.Entry.{Entry}
 use Rattle.counted_books.specs.declared.Free.TheVariants.{Places}
 use Rattle.counted_books.specs.Counted.{emptied, free}
 use Rattle.counted_books.proofs.Held.{holding}
-use Rattle.book_history.specs.History.{Call, run, history}
+use Rattle.book_history.specs.History.{Call, after, run, history}
 use Rattle.book_history.specs.Keeps.{Keeps}
 use Rattle.book_history.proofs.Kept.{keeps-shown, no_entries, emptied-shown, kept}
 
 pub kept-all : {n : ℕ} {w : List ℕ} {E : List Entry} → Keeps n w E → (cs : List Call) → Keeps n (run w cs) (history ((n - 2) / 4) E cs)
 unfolding run history
 kept-all k [] = k
-kept-all k (c ∷ cs) = kept-all (kept k c) cs
+kept-all {w = w} k (c ∷ cs) = kept-all {w = after w c} (kept k c) cs
 
 -- a slice with room for the number, emptied
 module _ (n : ℕ) (long : 2 ≤ n) (cs : List Call) where

@@ -18,6 +18,7 @@ use Rattle.book_history.specs.Keeps.{In, here, there}
 
 pub in_holds : (fits : Entry → Bool) {e : Entry} (E : List Entry) → In e E → fits e ≡ true → holds fits E ≡ true
 unfolding holds
+in_holds fits {e = e} [] x'' g = elim x'' [ ]
 in_holds fits (f ∷ E) here g = rw g
 in_holds fits (f ∷ E) (there m) g = go (fits f) (in_holds fits E m g)
   where
@@ -27,6 +28,7 @@ in_holds fits (f ∷ E) (there m) g = go (fits f) (in_holds fits E m g)
 
 -- "each name held appears once"
 pub name_once : {e f : Entry} (E : List Entry) → orderly E ≡ true → In e E → In f E → alike e f ≡ true → e ≡ f
+name_once {e = e} {f = f} [] o x4 _ a = elim x4 [ ]
 name_once (g ∷ E) o here here a = refl
 name_once (g ∷ E) o here (there n) a = absurd (true≢false (sym (in_holds (alike g) E n a) ∙ (first-fair g E o).fresh))
 name_once {e} (g ∷ E) o (there m) here a = absurd (true≢false (sym (in_holds (alike g) E m (alike_comm g e ∙ a)) ∙ (first-fair g E o).fresh))
@@ -34,10 +36,12 @@ name_once (g ∷ E) o (there m) (there n) a = name_once E (others g E o) m n a
 
 -- the numbers behind an entry are higher
 pub higher : (g : Entry) {e : Entry} (E : List Entry) → before g E ≡ true → orderly E ≡ true → In e E → g.number < e.number
+higher g {e = e} [] b o x3 = elim x3 [ ]
 higher g (f ∷ E) b o here = ltb-true g.number f.number b
 higher g (f ∷ E) b o (there m) = omega (arith, ltb-true g.number f.number b, higher f E (first-fair f E o).before (others f E o) m)
 
 pub number_once : {e f : Entry} (E : List Entry) → orderly E ≡ true → In e E → In f E → e.number ≡ f.number → e ≡ f
+number_once {e = e} {f = f} [] o x4 _ a = elim x4 [ ]
 number_once (g ∷ E) o here here a = refl
 number_once (g ∷ E) o here (there n) a = absurd (omega (arith, higher g E (first-fair g E o).before (others g E o) n))
 number_once (g ∷ E) o (there m) here a = absurd (omega (arith, higher g E (first-fair g E o).before (others g E o) m))

@@ -1,3 +1,4 @@
+use mathlib.Core.List.{[]}
 -- A withdrawn frame leaves nothing under its name, whatever frames repeated it, and its room is used again.
 use mathlib.Core.Path.{◌≡◌, refl, sym, ap, ◌∙◌}
 use mathlib.Core.Bool.{Bool, true, false, cond, not, true≢false}
@@ -37,6 +38,7 @@ front P (there m) p q = q m
 -- what is left was there, and has another number
 left_in : (k : ℕ) {g : Entry} (E : List Entry) → orderly E ≡ true → In g (without k E) → In g E × (numbered k g ≡ false)
 unfolding without
+left_in k {g = g} [] o m = elim m [ ]
 left_in k {g} (f ∷ E) o m = go (numbered k f) refl m (left_in k E (others f E o))
   where
     go : (b : Bool) → numbered k f ≡ b → In g (cond b E (f ∷ without k E)) → (In g (without k E) → In g E × (numbered k g ≡ false)) → In g (f ∷ E) × (numbered k g ≡ false)

@@ -1,4 +1,6 @@
 // A route clearance that is given up where it cannot be read.
+#![tactic(auto)]
+
 ghost use Rattle.std.specs.Prelude.{◌+◌, ◌<◌, ◌^◌};
 ghost use Rattle.x691.specs.Bits.{bit_of};
 ghost use Rattle.runs.specs.Runs.{Runs};

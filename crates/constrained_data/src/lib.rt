@@ -1,4 +1,6 @@
 // The constrained data of a message: one or two clearances, each of which may be given up with all that follows it.
+#![tactic(auto)]
+
 ghost use Rattle.std.specs.Prelude.{◌≡◌, ◌≤◌, ◌<◌, ◌^◌};
 ghost use Rattle.x691.specs.Bits.{bit_of};
 ghost use Rattle.atn.specs.Reading.{read};

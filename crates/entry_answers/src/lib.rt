@@ -1,4 +1,6 @@
 // The line of an entry's answer.
+#![tactic(auto)]
+
 ghost use Rattle.std.specs.Prelude.{◌+◌, ◌≤◌, length};
 
 use answers::Answer;

@@ -1,4 +1,6 @@
 // The writer of fixture frames: from a list of records to the bits of a clean message, padded with zero bits to a byte.
+#![tactic(auto)]
+
 ghost use Rattle.std.specs.Prelude.{◌≡◌, ◌≤◌, length};
 ghost use Rattle.std.proofs.Math.Option.{some};
 ghost use Rattle.x691.specs.Bits.{bit_of};

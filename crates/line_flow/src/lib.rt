@@ -1,4 +1,6 @@
 // A program that answers lines: what it has read, what it has gathered, and whether it goes on.
+#![tactic(auto)]
+
 ghost use Rattle.std.specs.Prelude.{◌≤◌, length};
 ghost use Rattle.line_flow.specs.Flow.{Runs, Answered, Ended};
 

@@ -1,4 +1,6 @@
 // Lines of the programs that print: a line is put together in an array and written by one call. What does not fit is left out.
+#![tactic(auto)]
+
 mod answer; // answer.rt: an entry's answer with its records
 mod case; // case.rt: a case's line
 mod comparison; // comparison.rt: whether two lines are the same

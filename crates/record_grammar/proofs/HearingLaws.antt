@@ -18,6 +18,7 @@ use Rattle.record_grammar.specs.Heard.{start, walked, heard}
 module _ (N : List ℕ) (s : Walk) (x : Record) {j : ℕ} {r : Row} {b : Bool} where
   one-row : (g k : ℕ) → 0 < g → j ≡ resolved s k → r ≡ row_at N j → b ≡ fits r s x → found N g s k x ≡ cond b j (found N (g - 1) s (asked r s) x)
   unfolding found
+  one-row zero k h ej er eb = elim h [ ]
   one-row (suc g) k h ej er eb = let e : suc g - 1 ≡ g = omega arith in rw (e, eb, er, ej)
 
   pub found_here : (g k : ℕ) → 0 < g → j ≡ resolved s k → r ≡ row_at N j → b ≡ fits r s x → b ≡ true → found N g s k x ≡ j

@@ -1,4 +1,6 @@
 // Reading by a lent table of nodes: `parse_by_table`. The reading decides before its records are written: a first one tells into a spare word, in which none fits, and counts them.
+#![tactic(auto)]
+
 ghost use Rattle.std.specs.Prelude.{◌≡◌, ◌*◌, ◌≤◌, min, length};
 ghost use Rattle.atn.specs.Entries.{read_frame, settle};
 ghost use Rattle.answers.specs.Says.{Says};

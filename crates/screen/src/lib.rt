@@ -1,4 +1,6 @@
 // Text for the operator's screen: the lines of a reading's elements, from its records alone.
+#![tactic(auto)]
+
 ghost use Rattle.std.specs.Prelude.{◌≡◌};
 ghost use Rattle.screen.specs.declared.Screen.TheVariants.{Refused};
 ghost use Rattle.screen.specs.Screen.{small, given, screen_lines};

@@ -1,4 +1,6 @@
 // Text for the operator's screen: the phrases and the records of a reading a line in; out, `shown` with the number of bytes and then the lines of the elements, or `no`, the refusal and the bytes needed.
+#![tactic(auto)]
+
 ghost use Rattle.std.specs.Prelude.{◌≤◌, length};
 ghost use Rattle.line_flow.specs.Flow.{Runs};
 

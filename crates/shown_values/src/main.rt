@@ -1,5 +1,7 @@
 // The text of every value that a number in an argument can have, a line each. With nothing on standard input these are the first two and the last two values of each field; with anything there they are all.
 // The file `stdout` is made by tools/screen from the readers of the Rust, which that tool also holds to all the lines.
+#![tactic(auto)]
+
 mod sweep; // sweep.rt: all values of a field
 
 fn main() {

@@ -1,5 +1,7 @@
 // A day of the name book: lines of four digits loaded, written back with five, names withdrawn, and each refusal. Every line has the number of free places.
 // The file `stdout` is written by hand from document 02.
+#![tactic(auto)]
+
 mod calls; // calls.rt: a call with its line
 mod said; // said.rt: what a line says of an answer
 

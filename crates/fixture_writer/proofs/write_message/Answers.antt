@@ -1,0 +1,73 @@
+use mathlib.Core.Path.{refl}
+use native.Mathlib.Omega.{arith}
+use lib.Pow.{pow_pos}
+use borrow.Author.Rules.{rules}
+use Rattle.fixture_writer.proofs.WriterLaws.{says_2, says_3, says_8_kind, says_8_fives, says_8_many, says_8_bytes, says_8_span, says_8_off, says_8_left, says_9, says_wrote, kind-of, table_sizes, lent-list, small-run}
+use Rattle.fixture_writer.proofs.write_message.Reads as reads
+use Rattle.fixture_writer.proofs.write_message.Lts as lts
+use Rattle.fixture_writer.proofs.refused.Reads as refused-reads
+use Rattle.fixture_writer.proofs.write_list.Reads as write-list-reads
+use Rattle.lent_tables.proofs.tables_fit.Reads as tables-fit-reads
+use Rattle.pens.proofs.places.put_at.Reads as put-at-reads
+use Rattle.write_spans.proofs.inside.spans_inside.Reads as spans-inside-reads
+use Rattle.fixture_writer.proofs.write_message.Goals as goal
+use Rattle.fixture_writer.proofs.write_message.Goals.{Start}
+
+pub put_at-requires : goal.put_at-requires
+put_at-requires c = (omega arith, pow_pos _)
+
+pub returns-then-not-tables_fit : goal.returns-then-not-tables_fit
+returns-then-not-tables_fit c =
+    says_2 c.args.kind c.args.direction c.args.down.now c.args.up.now c.args.words.now c.args.src.now c.args.out.now _ c.tables_fit.result c.tables_fit.ensures c.if-not-tables_fit.true c.refused.ensures
+
+pub returns-then-direction-gt1 : goal.returns-then-direction-gt1
+returns-then-direction-gt1 c =
+    says_3 c.args.kind c.args.direction c.args.down.now c.args.up.now c.args.words.now c.args.src.now c.args.out.now _ c.tables_fit.result c.tables_fit.ensures c.if-not-tables_fit.false c.if-direction-gt1.true c.refused-then-direction-gt1.ensures
+
+pub returns-then-kind-gt2 : goal.returns-then-kind-gt2
+returns-then-kind-gt2 c =
+    says_8_kind c.args.kind c.args.direction c.args.down.now c.args.up.now c.args.words.now c.args.src.now c.args.out.now c.tables_fit.result c.tables_fit.ensures c.if-not-tables_fit.false c.if-direction-gt1.false _ c.if-kind-gt2.true c.refused-then-kind-gt2.ensures
+
+pub returns-then-words-ne0 : goal.returns-then-words-ne0
+returns-then-words-ne0 c =
+    says_8_fives c.args.kind c.args.direction c.args.down.now c.args.up.now c.args.words.now c.args.src.now c.args.out.now c.tables_fit.result c.tables_fit.ensures c.if-not-tables_fit.false c.if-direction-gt1.false _ c.if-kind-gt2.false c.if-words-ne0.true c.refused-then-words-ne0.ensures
+
+pub returns-then-m-ge-RECORDS : goal.returns-then-m-ge-RECORDS
+returns-then-m-ge-RECORDS c =
+    says_8_many c.args.kind c.args.direction c.args.down.now c.args.up.now c.args.words.now c.args.src.now c.args.out.now c.tables_fit.result c.tables_fit.ensures c.if-not-tables_fit.false c.if-direction-gt1.false _ c.if-kind-gt2.false c.if-m-ge-RECORDS.true c.refused-then-m-ge-RECORDS.ensures
+
+pub returns-then-src-ge-BYTES : goal.returns-then-src-ge-BYTES
+returns-then-src-ge-BYTES c =
+    says_8_bytes c.args.kind c.args.direction c.args.down.now c.args.up.now c.args.words.now c.args.src.now c.args.out.now c.tables_fit.result c.tables_fit.ensures c.if-not-tables_fit.false c.if-direction-gt1.false _ c.if-kind-gt2.false c.if-src-ge-BYTES.true c.refused-then-src-ge-BYTES.ensures
+
+pub returns-then-not-spans_inside : goal.returns-then-not-spans_inside
+returns-then-not-spans_inside c =
+    says_8_span c.args.kind c.args.direction c.args.down.now c.args.up.now c.args.words.now c.args.src.now c.args.out.now c.tables_fit.result c.tables_fit.ensures c.if-not-tables_fit.false c.if-direction-gt1.false c.if-kind-gt2.false _ refl c.if-words-ne0.false c.if-m-ge-RECORDS.false c.if-src-ge-BYTES.false _ c.spans_inside.result c.spans_inside.ensures c.if-not-spans_inside.true c.refused-then-not-spans_inside.ensures
+
+pub write_list-p-requires : goal.write_list-p-requires
+write_list-p-requires c =
+    let z = (table_sizes c.tables_fit.result c.args.down.now c.args.up.now c.tables_fit.ensures c.if-not-tables_fit.false) in (c.if-kind-gt2.false, c.if-direction-gt1.false, z.0, z.1, z.2, z.3, lent-list c.args.words.now _ c.args.src.now c.spans_inside.result refl c.if-m-ge-RECORDS.false c.if-src-ge-BYTES.false c.spans_inside.ensures c.if-not-spans_inside.false)
+
+pub returns-then-p : goal.returns-then-p
+returns-then-p c =
+    says_8_off c.args.kind c.args.direction c.args.down.now c.args.up.now c.args.words.now c.args.src.now c.args.out.now c.tables_fit.result c.tables_fit.ensures c.if-not-tables_fit.false c.if-direction-gt1.false c.if-kind-gt2.false _ refl c.if-words-ne0.false c.if-m-ge-RECORDS.false c.if-src-ge-BYTES.false c.spans_inside.result c.spans_inside.ensures c.if-not-spans_inside.false c.write_list-p.result _ _ (c.write_list-p.ensures _ (kind-of c.args.kind c.args.direction c.args.down.now c.args.up.now c.args.words.now c.args.src.now c.args.out.now c.tables_fit.result c.tables_fit.ensures c.if-not-tables_fit.false c.if-direction-gt1.false c.if-kind-gt2.false _ refl c.if-words-ne0.false c.if-m-ge-RECORDS.false c.if-src-ge-BYTES.false)) _ c.if-p.true c.refused-then-p.ensures
+
+pub returns-then-p-m : goal.returns-then-p-m
+returns-then-p-m c =
+    says_8_left c.args.kind c.args.direction c.args.down.now c.args.up.now c.args.words.now c.args.src.now c.args.out.now c.tables_fit.result c.tables_fit.ensures c.if-not-tables_fit.false c.if-direction-gt1.false c.if-kind-gt2.false _ refl c.if-words-ne0.false c.if-m-ge-RECORDS.false c.if-src-ge-BYTES.false c.spans_inside.result c.spans_inside.ensures c.if-not-spans_inside.false c.write_list-p.result _ _ (c.write_list-p.ensures _ (kind-of c.args.kind c.args.direction c.args.down.now c.args.up.now c.args.words.now c.args.src.now c.args.out.now c.tables_fit.result c.tables_fit.ensures c.if-not-tables_fit.false c.if-direction-gt1.false c.if-kind-gt2.false _ refl c.if-words-ne0.false c.if-m-ge-RECORDS.false c.if-src-ge-BYTES.false)) _ c.if-p.false c.if-p-m.true c.refused-then-p-m.ensures
+
+pub returns-then-out-need : goal.returns-then-out-need
+returns-then-out-need c =
+    says_9 c.args.kind c.args.direction c.args.down.now c.args.up.now c.args.words.now c.args.src.now c.args.out.now c.tables_fit.result c.tables_fit.ensures c.if-not-tables_fit.false c.if-direction-gt1.false c.if-kind-gt2.false _ refl c.if-words-ne0.false c.if-m-ge-RECORDS.false c.if-src-ge-BYTES.false c.spans_inside.result c.spans_inside.ensures c.if-not-spans_inside.false c.write_list-p.result _ _ (c.write_list-p.ensures _ (kind-of c.args.kind c.args.direction c.args.down.now c.args.up.now c.args.words.now c.args.src.now c.args.out.now c.tables_fit.result c.tables_fit.ensures c.if-not-tables_fit.false c.if-direction-gt1.false c.if-kind-gt2.false _ refl c.if-words-ne0.false c.if-m-ge-RECORDS.false c.if-src-ge-BYTES.false)) _ _ c.if-p.false c.if-p-m.false refl c.if-out-need.true c.refused-then-out-need.ensures
+
+pub write_list-requires : goal.write_list-requires
+write_list-requires c =
+    let z = (table_sizes c.tables_fit.result c.args.down.now c.args.up.now c.tables_fit.ensures c.if-not-tables_fit.false) in (c.if-kind-gt2.false, c.if-direction-gt1.false, z.0, z.1, z.2, z.3, lent-list c.args.words.now _ c.args.src.now c.spans_inside.result refl c.if-m-ge-RECORDS.false c.if-src-ge-BYTES.false c.spans_inside.ensures c.if-not-spans_inside.false)
+
+pub overflow_mul-need : goal.overflow_mul-need
+overflow_mul-need c =
+    omega (arith, small-run c.args.kind c.args.direction c.args.down.now c.args.up.now c.args.words.now c.args.src.now c.args.out.now c.tables_fit.result c.tables_fit.ensures c.if-not-tables_fit.false c.if-direction-gt1.false c.if-kind-gt2.false _ refl c.if-words-ne0.false c.if-m-ge-RECORDS.false c.if-src-ge-BYTES.false c.spans_inside.result c.spans_inside.ensures c.if-not-spans_inside.false c.write_list-p.result _ _ (c.write_list-p.ensures _ (kind-of c.args.kind c.args.direction c.args.down.now c.args.up.now c.args.words.now c.args.src.now c.args.out.now c.tables_fit.result c.tables_fit.ensures c.if-not-tables_fit.false c.if-direction-gt1.false c.if-kind-gt2.false _ refl c.if-words-ne0.false c.if-m-ge-RECORDS.false c.if-src-ge-BYTES.false)) c.if-p.false c.if-p-m.false)
+
+pub returns : goal.returns
+returns c =
+    says_wrote c.args.kind c.args.direction c.args.down.now c.args.up.now c.args.words.now c.args.src.now c.args.out.now c.tables_fit.result c.tables_fit.ensures c.if-not-tables_fit.false c.if-direction-gt1.false c.if-kind-gt2.false _ refl c.if-words-ne0.false c.if-m-ge-RECORDS.false c.if-src-ge-BYTES.false c.spans_inside.result c.spans_inside.ensures c.if-not-spans_inside.false c.write_list-p.result _ _ (c.write_list-p.ensures _ (kind-of c.args.kind c.args.direction c.args.down.now c.args.up.now c.args.words.now c.args.src.now c.args.out.now c.tables_fit.result c.tables_fit.ensures c.if-not-tables_fit.false c.if-direction-gt1.false c.if-kind-gt2.false _ refl c.if-words-ne0.false c.if-m-ge-RECORDS.false c.if-src-ge-BYTES.false)) _ _ c.write_list.result _ _ c.if-p.false c.if-p-m.false refl c.if-out-need.false (λ i. omega (arith, (goal.at.returns c).Start.type_inv.out i)) (c.write_list.ensures _ (kind-of c.args.kind c.args.direction c.args.down.now c.args.up.now c.args.words.now c.args.src.now c.args.out.now c.tables_fit.result c.tables_fit.ensures c.if-not-tables_fit.false c.if-direction-gt1.false c.if-kind-gt2.false _ refl c.if-words-ne0.false c.if-m-ge-RECORDS.false c.if-src-ge-BYTES.false)) c.put_at.ensures refl

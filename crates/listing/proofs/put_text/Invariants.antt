@@ -1,0 +1,10 @@
+-- `listing::put_text` is safe and ends. The measure is what is left of the text.
+use Prim.Native.Nat.{◌-◌}
+use lib.ListN.{length}
+use Rattle.listing.proofs.put_text.Given as goal
+
+abbrev pub invariant-loop-i : goal.invariant-loop-i
+invariant-loop-i l = Unit
+
+abbrev pub decreases-loop-i : goal.decreases-loop-i
+decreases-loop-i l = length l.text - l.i
