@@ -1,4 +1,4 @@
-// The four entries, and the writer, for programs in C and Rust: `rt staticlib adjagosk`, and include/adjagosk.h beside src/. A slice is a pointer and a length there.
+// The four entries, and the writer, for programs in C and Rust: the crate adjagosk_c exports them, and include/adjagosk.h beside src/ has them for C. A slice is a pointer and a length there.
 ghost use Rattle.std.specs.Prelude.{◌≡◌};
 ghost use Rattle.atn.specs.Entries.{parse-apdu, parse-pdus, parse-cm, parse-acse-apdu};
 ghost use Rattle.answers.specs.Says.{answer_of};
@@ -24,16 +24,14 @@ pub struct Numbers {
     pub lacked: usize,
 }
 
-#[unsafe(no_mangle)]
-pub extern "C" fn adjagosk_apdu(frame: &[u8], down: &[u8], up: &[u8], words: &mut [u64]) -> Numbers
+pub fn adjagosk_apdu(frame: &[u8], down: &[u8], up: &[u8], words: &mut [u64]) -> Numbers
     ensures { Gives result words.new (parse-apdu frame.now down.now up.now words.old) }
 {
     let a = parse_apdu(frame, down, up, words);
     in_numbers(a)
 }
 
-#[unsafe(no_mangle)]
-pub extern "C" fn adjagosk_pdus(
+pub fn adjagosk_pdus(
     frame: &[u8],
     direction: u64,
     down: &[u8],
@@ -46,16 +44,14 @@ pub extern "C" fn adjagosk_pdus(
     in_numbers(a)
 }
 
-#[unsafe(no_mangle)]
-pub extern "C" fn adjagosk_cm(frame: &[u8], direction: u64, words: &mut [u64]) -> Numbers
+pub fn adjagosk_cm(frame: &[u8], direction: u64, words: &mut [u64]) -> Numbers
     ensures { Gives result words.new (parse-cm frame.now direction words.old) }
 {
     let a = parse_cm(frame, direction, words);
     in_numbers(a)
 }
 
-#[unsafe(no_mangle)]
-pub extern "C" fn adjagosk_acse(frame: &[u8], words: &mut [u64]) -> Numbers
+pub fn adjagosk_acse(frame: &[u8], words: &mut [u64]) -> Numbers
     ensures { Gives result words.new (parse-acse-apdu frame.now words.old) }
 {
     let a = parse_acse_apdu(frame, words);

@@ -15,8 +15,7 @@ pub struct Frame {
     pub need: usize,
 }
 
-#[unsafe(no_mangle)]
-pub extern "C" fn adjagosk_write(
+pub fn adjagosk_write(
     kind: u64,
     direction: u64,
     down: &[u8],

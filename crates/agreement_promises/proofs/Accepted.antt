@@ -140,7 +140,7 @@ unfolding records_from
 agreed-flat R h = rw (records-flat R) h
 
 decide-agreed : (ts : List Test) (r : Reply) (w : List ℕ) → Agreeing r → Agreed (decide ts r w)
-decide-agreed ts r w h = decide-good _ _ agreed-flat ts r w (λ _. h)
+decide-agreed ts r w h = decide-good _ (λ (x : List ℕ). agreed (records_from 0 x) ≡ true) agreed-flat ts r w (λ _. h)
 
 -- whatever the frame, the direction, the tables and the lent words
 pub parse-pdus-agreed : (s : List ℕ) (d : ℕ) (down up w : List ℕ) → Agreed (parse-pdus s d down up w)

@@ -46,7 +46,7 @@ placed-flat R h = rw (records-flat R) h
 
 -- the frame is the first that is tested
 enter-placed : (s : List ℕ) (n : ℕ) (ts : List Test) (r : Reply) (w : List ℕ) → Climbs s r → Good (λ R. begun R ≡ true) r → Placed (decide (test (frame-fits s) n ∷ ts) r w)
-enter-placed s n ts r w h g = decide-good _ _ placed-flat (test (frame-fits s) n ∷ ts) r w (λ p. climbs_placed s r h g p.0)
+enter-placed s n ts r w h g = decide-good _ (λ (x : List ℕ). placed 0 (records_from 0 x) ≡ true) placed-flat (test (frame-fits s) n ∷ ts) r w (λ p. climbs_placed s r h g p.0)
 
 -- whatever the frame, the direction, the tables and the lent words
 pub parse-pdus-placed : (s : List ℕ) (d : ℕ) (down up w : List ℕ) → Placed (parse-pdus s d down up w)

@@ -74,7 +74,7 @@ module _ (K : ℕ → ℕ) (R : List Rec) where
   right_of A B g = sets.right_of inside inside_covers A B g
 
   pub all_among_lem : (A B : List State) → all_among A B ≡ true → Covered K A R → Covered K B R
-  all_among_lem A B h g = sets.all_among inside inside_covers A B h g
+  all_among_lem A B h g = sets.all_among_lem inside inside_covers A B h g
 
 ---------------------------------------------------------------- a record in front
 

@@ -15,11 +15,23 @@ fn main(rt: HostRuntime) {
     let mut gathered = io::large_buffer();
     let mut frame = [0u8; 65536];
     let mut words = [0u64; 8192];
-    all(&mut stdin, &mut taken, &mut gathered, &mut frame, &mut words);
+    all(
+        &mut stdin,
+        &mut taken,
+        &mut gathered,
+        &mut frame,
+        &mut words,
+    );
 }
 
 // Nothing says that the input ends, so its lines are counted down from a number that no run uses up.
-fn all(stdin: &mut Stdin, taken: &mut [u8], gathered: &mut [u8], frame: &mut [u8], words: &mut [u64]) {
+fn all(
+    stdin: &mut Stdin,
+    taken: &mut [u8],
+    gathered: &mut [u8],
+    frame: &mut [u8],
+    words: &mut [u64],
+) {
     let mut flow = line_flow::start();
     let mut turns = u64::MAX;
     while 0 < turns {

@@ -1,4 +1,6 @@
 // Frames without a message. They are read by value, and told in three records once it is known that these fit.
+#![tactic(auto)]
+
 ghost use Rattle.std.specs.Prelude.{List, ℕ, ◌≤◌, length};
 ghost use Rattle.atn.specs.Entries.{pdus, read_frame, settle};
 ghost use Rattle.records.specs.Space.{space};

@@ -1,4 +1,6 @@
 // The forward message: a header, and the data of a message of either direction in an inner string. The header is read as a value, so that nothing of it is told where the body ends early.
+#![tactic(auto)]
+
 ghost use Rattle.std.specs.Prelude.{◌≤◌, ◌<◌, ◌^◌, length};
 ghost use Rattle.inner_messages.specs.Parts.{lax_data};
 ghost use Rattle.forward.specs.Forward.{Forgives, carried_table, forward_at};

@@ -173,7 +173,7 @@ unfolding formed whole size need records_from
 formed-flat R h = rw (records-flat R, h, eq-eqb (length (flat R) % 5) 0 (omega (arith, flat-length R))) refl
 
 decide-formed : (ts : List Test) (r : Reply) (w : List ℕ) → (Passed ts → Heard r) → Formed (decide ts r w)
-decide-formed ts r w f = decide-good _ _ (λ R h. formed-flat R h) ts r w f
+decide-formed ts r w f = decide-good _ (λ x. formed x ≡ true) (λ R h. formed-flat R h) ts r w f
 
 frame-short : (s : List ℕ) → frame-fits s ≡ true → Fits s
 unfolding frame-fits

@@ -11,13 +11,15 @@ use Rattle.atn.specs.Reading.{Rec, Ans, ok, past, stop, glue, tardy, late, then,
 use Rattle.atn.proofs.Steps.{fetch_go, fetch_no}
 use Rattle.atn.proofs.Reach.{split}
 use Rattle.record_grammar.specs.declared.Walk.{Walk}
+use Rattle.record_views.specs.View.{fetched}
 use Rattle.record_grammar.specs.Heard.{walked}
+use Rattle.record_grammar.specs.Rows.{stepped}
 use Rattle.record_grammar.specs.Table.{table}
 
 pub walked-append : (s : Walk) (R S : List Rec) → walked table s (R ++ S) ≡ walked table (walked table s R) S
 unfolding walked
 walked-append s [] S = refl
-walked-append s (r ∷ R) S = walked-append _ R S
+walked-append s (r ∷ R) S = walked-append (stepped table s (fetched r)) R S
 
 -- behind an answer that goes on, one that is given up, and one that fails
 unfoldable pub Ends : (Walk → Type 0) → (Walk → Type 0) → (Walk → Type 0) → Walk → Ans → Type 0

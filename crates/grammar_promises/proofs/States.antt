@@ -130,7 +130,7 @@ module _ (ρ : ℕ → ℕ) (s : Walk) where
   right_of A B g = sets.right_of inside inside_covers A B g
 
   pub all_among_lem : (A B : List State) → all_among A B ≡ true → Covered ρ A s → Covered ρ B s
-  all_among_lem A B h g = sets.all_among inside inside_covers A B h g
+  all_among_lem A B h g = sets.all_among_lem inside inside_covers A B h g
 
 -- a change of state that follows the walk
 pub each_covered : (ρ ρ' : ℕ → ℕ) (s s' : Walk) (h : State → State) → ((x : State) → Covers ρ x s → Covers ρ' (h x) s') → (A : List State) → Covered ρ A s → Covered ρ' (each h A) s'

@@ -1,4 +1,6 @@
 // What stands in inner strings: a message, or the data that a forward message carries. Each is read as a part of the frame, in a window of its own.
+#![tactic(auto)]
+
 ghost use Rattle.std.specs.Prelude.{◌≡◌, ◌≤◌, ◌<◌, ◌^◌, length};
 ghost use Rattle.inner_messages.specs.Parts.{lax_data, inner_at};
 ghost use Rattle.inner_strings.specs.Strings.{Has};

@@ -1,4 +1,6 @@
 // The alternatives of the message choice, of both directions.
+#![tactic(auto)]
+
 ghost use Rattle.std.specs.Prelude.{[], ◌≤◌, ◌<◌, ◌^◌, length};
 ghost use Rattle.pdu_alternatives.specs.Alternatives.{start_at, alternative_at};
 ghost use Rattle.runs.specs.Runs.{Runs};

@@ -1,4 +1,6 @@
 // The protected message: the octets of an algorithm, a message in its inner string, and the integrity check, each of which may be absent.
+#![tactic(auto)]
+
 ghost use Rattle.std.specs.Prelude.{[], ◌≤◌, ◌<◌, ◌^◌, length};
 ghost use Rattle.cursor.specs.Place.{Reads};
 ghost use Rattle.protected.specs.Parts.{algorithm, message_part, protected};

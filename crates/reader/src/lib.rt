@@ -1,4 +1,4 @@
-// One small reader that holds the frame and its bit place, for callers: thin functions above the by-value cursor. Those over the struct are proved by hand; `start` and `next`, on a slice and a cursor, do the work. Whoever wants no struct calls `bits_at`.
+// One small reader that holds the frame and its bit place, for callers: thin functions above the by-value cursor. `start` and `next`, on a slice and a cursor, do the work. Whoever wants no struct calls `bits_at`.
 #![tactic(auto)]
 
 ghost use Rattle.std.specs.Prelude.{◌≡◌, ◌≤◌, length};

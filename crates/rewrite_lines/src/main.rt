@@ -48,7 +48,9 @@ fn all(
     let mut flow = line_flow::start();
     let mut turns = u64::MAX;
     while 0 < turns {
-        flow = turn(stdin, taken, gathered, line, down, up, frame, words, written, flow);
+        flow = turn(
+            stdin, taken, gathered, line, down, up, frame, words, written, flow,
+        );
         if !flow.on {
             return;
         }

@@ -1,4 +1,6 @@
 // Frames that are a send, or a start of the uplink, in the form that most have: found by their first bits, so that the message's length is known before anything is told.
+#![tactic(auto)]
+
 ghost use Rattle.std.specs.Prelude.{◌≡◌, true, List, ℕ, ◌+◌, ◌*◌, ◌≤◌, ◌<◌, length};
 ghost use Rattle.x691.specs.Bits.{bit_of, uint};
 ghost use Rattle.pdus.specs.Pdus.{pdu_at};

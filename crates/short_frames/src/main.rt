@@ -1,5 +1,7 @@
 // Every frame of up to two bytes, through the entries of context management and association control. Frames that follow each other and have the same answer share a line:
 // the entry, the first and the last of them, and the answer. The file `stdout` is made from the answers of the Rust alone, by tools/differential/short-list.
+#![tactic(auto)]
+
 mod entries; // entries.rt: CM in both directions and ACSE, by number
 mod frames; // frames.rt: a frame by its number
 mod runs; // runs.rt: frames with the same answer

@@ -78,7 +78,7 @@ function drop(count, list) {
   return rest instanceof Given ? given(rest.array, rest.from + left) : rest;
 }
 
-function getD(list, place, other) {
+function getOr(list, place, other) {
   const rest = drop(place, list);
   return force(rest === nil ? other : rest.head);
 }
@@ -93,4 +93,4 @@ function append(list, more) {
   return made;
 }
 
-module.exports = { ...values, add, pred, monus, times, quotient, remainder, power, largest, smallest, bitOr, leb, ltb, eqb, length, drop, getD, append };
+module.exports = { ...values, add, pred, monus, times, quotient, remainder, power, largest, smallest, bitOr, leb, ltb, eqb, length, drop, getOr, append };

@@ -133,7 +133,7 @@ class Writer:
         if target.data.kind == 'declared':
             name = self.data(target.data)
             return f'new {name}({", ".join([str(target.index)] + args)})' if args else f'{name}_{target.index}'
-        return {'zero': '0', 'suc': 'add({}, 1)', 'true': 'true', 'false': 'false', '[]': 'nil', '_∷_': 'new Cons({}, {})'}[target.name].format(*args)
+        return {'zero': '0', 'suc': 'add({}, 1)', 'true': 'true', 'false': 'false', '[]': 'nil', '◌∷◌': 'new Cons({}, {})'}[target.name].format(*args)
 
     def waiting(self, term, held, known):
         """The term's value or a thunk of it: what costs next to nothing is computed at once."""

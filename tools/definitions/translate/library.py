@@ -28,7 +28,7 @@ ZERO, SUC = NAT.add('zero', 0), NAT.add('suc', 1)
 BOOL = Data('Bool', 'bool')
 TRUE, FALSE = BOOL.add('true', 0), BOOL.add('false', 0)
 LIST = Data('List', 'list')
-NIL, CONS = LIST.add('[]', 0), LIST.add('_∷_', 2)
+NIL, CONS = LIST.add('[]', 0), LIST.add('◌∷◌', 2)
 
 
 def _test(fresh, condition, yes, no):
@@ -37,47 +37,39 @@ def _test(fresh, condition, yes, no):
 
 
 MEANING = {
-    'Prim.Native.Nat': {
+    'Rattle.std.specs.Prelude': {
         'ℕ': NAT, 'zero': ZERO, 'suc': SUC,
-        '_+_': Native('add', 'vv', cheap=True),
-        '_-_': Native('monus', 'vv', cheap=True),  # 0 where it would be below
-        '_*_': Native('times', 'vv'),
-        '_/_': Native('quotient', 'vv'),           # x / 0 = 0
-        '_%_': Native('remainder', 'vv'),          # x % 0 = x
-        '_^_': Native('power', 'vv'),
+        '◌+◌': Native('add', 'vv', cheap=True),
+        '◌-◌': Native('monus', 'vv', cheap=True),  # 0 where it would be below
+        '◌*◌': Native('times', 'vv'),
+        '◌/◌': Native('quotient', 'vv'),           # x / 0 = 0
+        '◌%◌': Native('remainder', 'vv'),          # x % 0 = x
+        '◌^◌': Native('power', 'vv'),
         'max': Native('largest', 'vv'),
         'min': Native('smallest', 'vv'),
-    },
-    'mathlib.Core.Bool': {
         'Bool': BOOL, 'true': TRUE, 'false': FALSE,
         'cond': Written(3, _test),
-        '_&&_': Written(2, lambda fresh, a, b: _test(fresh, a, b, Call(FALSE, ()))),
-        '_||_': Written(2, lambda fresh, a, b: _test(fresh, a, Call(TRUE, ()), b)),
-    },
-    'mathlib.Core.List': {
-        'List': LIST, '[]': NIL, '_∷_': CONS,
-        '_++_': Native('append', 'vl'),
-    },
-    'lib.ListN': {
-        'length': Native('length', 'v'),
-        'drop': Native('drop', 'vv'),
-        'getD': Native('getD', 'vvl'),
-    },
-    'lib.Dec': {
+        '◌&&◌': Written(2, lambda fresh, a, b: _test(fresh, a, b, Call(FALSE, ()))),
+        '◌||◌': Written(2, lambda fresh, a, b: _test(fresh, a, Call(TRUE, ()), b)),
         'leb': Native('leb', 'vv'),
         'ltb': Native('ltb', 'vv'),
         'eqb': Native('eqb', 'vv'),
+        'List': LIST, '[]': NIL, '◌∷◌': CONS,
+        '◌++◌': Native('append', 'vl'),
+        'length': Native('length', 'v'),
+        'drop': Native('drop', 'vv'),
+        'get_or': Native('getOr', 'vvl'),
     },
-    'lib.Bits': {
-        'bitOr': Native('bitOr', 'vv'),
+    'Rattle.std.specs.Int.Bits': {
+        'bit_or': Native('bitOr', 'vv'),
     },
 }
 
 FIXITY = {
-    'Prim.Native.Nat': {
-        '_+_': ('infixl', 65), '_-_': ('infixl', 65),
-        '_*_': ('infixl', 70), '_/_': ('infixl', 70), '_%_': ('infixl', 70), '_^_': ('infixr', 75),
+    'Rattle.std.specs.Prelude': {
+        '◌+◌': ('infixl', 65), '◌-◌': ('infixl', 65),
+        '◌*◌': ('infixl', 70), '◌/◌': ('infixl', 70), '◌%◌': ('infixl', 70), '◌^◌': ('infixr', 75),
+        '◌&&◌': ('infixl', 35), '◌||◌': ('infixl', 30),
+        '◌∷◌': ('infixr', 67), '◌++◌': ('infixl', 65),
     },
-    'mathlib.Core.Bool': {'_&&_': ('infixl', 35), '_||_': ('infixl', 30)},
-    'mathlib.Core.List': {'_∷_': ('infixr', 67), '_++_': ('infixl', 65)},
 }

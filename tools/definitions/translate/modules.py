@@ -7,9 +7,8 @@ from .core import Data
 from .syntax import Applied, Name, Parser
 from .tokens import Trouble, tokens
 
-# `Rattle·atn·specs.specs.Format` within its crate, `Rattle·x691.specs.Bits` from another
-_OURS = re.compile(r'Rattle·(\w+)(?:·specs)?\.specs\.(\S+)$')
-_INFIX = re.compile(r'_[^_]+_$')
+_OURS = re.compile(r'Rattle\.(?!std\.)(\w+)\.specs\.(\S+)$')
+_INFIX = re.compile(r'◌[^◌]+◌$')
 _USE_NAMES = re.compile(r'(?:pub )?use (\S+)\.\{(.*)\}$')
 _USE_MODULE = re.compile(r'(?:pub )?use (\S+?)(?: as (\S+))?$')
 

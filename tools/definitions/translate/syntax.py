@@ -156,7 +156,7 @@ class Parser:
             side, strength = self.operators[self.text()]
             if strength < least:
                 break
-            sign = Name(f'_{self.text()}_', self.line())
+            sign = Name(f'◌{self.text()}◌', self.line())
             self.take()
             right = self.operation(strength if side == 'infixr' else strength + 1)
             left = Applied(sign, (left, right))
@@ -169,9 +169,7 @@ class Parser:
         head, args = self.atom(), []
         while self.at < len(self.tokens):
             token = self.tokens[self.at]
-            if token.kind == 'field':
-                head, args = Field(Applied(head, tuple(args)) if args else head, self.place(self.take()[1:])), []
-            elif token.text in ('λ', 'let'):
+            if token.text in ('λ', 'let'):
                 args.append(self.term())  # the last argument needs no parentheses
                 break
             elif self.starts_atom(token):
@@ -179,6 +177,21 @@ class Parser:
             else:
                 break
         return Applied(head, tuple(args)) if args else head
+
+    def closed(self):
+        """What stands behind an opening parenthesis, with the closing one."""
+        items = [self.term()]
+        while self.text() == ',':
+            self.take(',')
+            items.append(self.term())
+        self.take(')')
+        return items[0] if len(items) == 1 else Listed(tuple(items))
+
+    def projected(self, value):
+        """With the fields that are taken of it, which bind tighter than application."""
+        while self.at < len(self.tokens) and self.tokens[self.at].kind == 'field':
+            value = Field(value, self.place(self.take()[1:]))
+        return value
 
     def place(self, text):
         if not text.isdigit():
@@ -195,12 +208,7 @@ class Parser:
             raise Trouble(f'line {self.line()}: a term is expected at {self.text()!r}')
         line, text = self.line(), self.take()
         if text == '(':
-            items = [self.term()]
-            while self.text() == ',':
-                self.take(',')
-                items.append(self.term())
-            self.take(')')
-            return items[0] if len(items) == 1 else Listed(tuple(items))
+            return self.projected(self.closed())
         if text[0].isdigit():
             return Numeral(int(text, 0))
         name, _, last = text.rpartition('.')

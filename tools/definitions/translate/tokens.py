@@ -6,7 +6,7 @@ from dataclasses import dataclass
 _PLAIN = r'[^\s(){}.;,@"«»]+'
 _WORD = re.compile(
     rf'(?P<name>{_PLAIN}(?:\.{_PLAIN})*)'  # `tag.year` is one name of two parts
-    rf'|(?P<field>(?<=\s)\.{_PLAIN})'      # `x .0`
+    rf'|(?P<field>(?<=\))\.{_PLAIN})'      # `(f x).0`
     r'|(?P<sign>[(){}.;,])')
 
 

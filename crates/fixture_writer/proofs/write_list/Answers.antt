@@ -1,10 +1,5 @@
-use borrow.Author.Rules.{rules}
 use Rattle.message_nodes.specs.Table.{table}
 use Rattle.fixture_writer.proofs.WriterLaws.{root_ready, root-part}
-use Rattle.fixture_writer.proofs.write_list.Reads as reads
-use Rattle.fixture_writer.proofs.write_list.Lts as lts
-use Rattle.message_nodes.proofs.root.Reads as root-reads
-use Rattle.write_nodes.proofs.node.write_node.Reads as write-node-reads
 use Rattle.fixture_writer.proofs.write_list.Goals as goal
 
 pub write_node-requires : goal.write_node-requires

@@ -1,17 +1,9 @@
 use mathlib.Core.Path.{refl}
 use native.Mathlib.Omega.{arith}
 use lib.Pow.{pow_pos}
-use borrow.Author.Rules.{rules}
 use Rattle.fixture_writer.proofs.WriterLaws.{says_2, says_3, says_8_kind, says_8_fives, says_8_many, says_8_bytes, says_8_span, says_8_off, says_8_left, says_9, says_wrote, kind-of, table_sizes, lent-list, small-run}
-use Rattle.fixture_writer.proofs.write_message.Reads as reads
-use Rattle.fixture_writer.proofs.write_message.Lts as lts
-use Rattle.fixture_writer.proofs.refused.Reads as refused-reads
-use Rattle.fixture_writer.proofs.write_list.Reads as write-list-reads
-use Rattle.lent_tables.proofs.tables_fit.Reads as tables-fit-reads
-use Rattle.pens.proofs.places.put_at.Reads as put-at-reads
-use Rattle.write_spans.proofs.inside.spans_inside.Reads as spans-inside-reads
 use Rattle.fixture_writer.proofs.write_message.Goals as goal
-use Rattle.fixture_writer.proofs.write_message.Goals.{Start}
+use Rattle.fixture_writer.proofs.write_message.Goals.{Else-p-m}
 
 pub put_at-requires : goal.put_at-requires
 put_at-requires c = (omega arith, pow_pos _)
@@ -70,4 +62,4 @@ overflow_mul-need c =
 
 pub returns : goal.returns
 returns c =
-    says_wrote c.args.kind c.args.direction c.args.down.now c.args.up.now c.args.words.now c.args.src.now c.args.out.now c.tables_fit.result c.tables_fit.ensures c.if-not-tables_fit.false c.if-direction-gt1.false c.if-kind-gt2.false _ refl c.if-words-ne0.false c.if-m-ge-RECORDS.false c.if-src-ge-BYTES.false c.spans_inside.result c.spans_inside.ensures c.if-not-spans_inside.false c.write_list-p.result _ _ (c.write_list-p.ensures _ (kind-of c.args.kind c.args.direction c.args.down.now c.args.up.now c.args.words.now c.args.src.now c.args.out.now c.tables_fit.result c.tables_fit.ensures c.if-not-tables_fit.false c.if-direction-gt1.false c.if-kind-gt2.false _ refl c.if-words-ne0.false c.if-m-ge-RECORDS.false c.if-src-ge-BYTES.false)) _ _ c.write_list.result _ _ c.if-p.false c.if-p-m.false refl c.if-out-need.false (λ i. omega (arith, (goal.at.returns c).Start.type_inv.out i)) (c.write_list.ensures _ (kind-of c.args.kind c.args.direction c.args.down.now c.args.up.now c.args.words.now c.args.src.now c.args.out.now c.tables_fit.result c.tables_fit.ensures c.if-not-tables_fit.false c.if-direction-gt1.false c.if-kind-gt2.false _ refl c.if-words-ne0.false c.if-m-ge-RECORDS.false c.if-src-ge-BYTES.false)) c.put_at.ensures refl
+    says_wrote c.args.kind c.args.direction c.args.down.now c.args.up.now c.args.words.now c.args.src.now c.args.out.now c.tables_fit.result c.tables_fit.ensures c.if-not-tables_fit.false c.if-direction-gt1.false c.if-kind-gt2.false _ refl c.if-words-ne0.false c.if-m-ge-RECORDS.false c.if-src-ge-BYTES.false c.spans_inside.result c.spans_inside.ensures c.if-not-spans_inside.false c.write_list-p.result _ _ (c.write_list-p.ensures _ (kind-of c.args.kind c.args.direction c.args.down.now c.args.up.now c.args.words.now c.args.src.now c.args.out.now c.tables_fit.result c.tables_fit.ensures c.if-not-tables_fit.false c.if-direction-gt1.false c.if-kind-gt2.false _ refl c.if-words-ne0.false c.if-m-ge-RECORDS.false c.if-src-ge-BYTES.false)) _ _ c.write_list.result _ _ c.if-p.false c.if-p-m.false refl c.if-out-need.false (λ i. omega (arith, (goal.at.returns c).Else-p-m.type_inv.out i)) (c.write_list.ensures _ (kind-of c.args.kind c.args.direction c.args.down.now c.args.up.now c.args.words.now c.args.src.now c.args.out.now c.tables_fit.result c.tables_fit.ensures c.if-not-tables_fit.false c.if-direction-gt1.false c.if-kind-gt2.false _ refl c.if-words-ne0.false c.if-m-ge-RECORDS.false c.if-src-ge-BYTES.false)) c.put_at.ensures refl

@@ -14,7 +14,8 @@ returns-then-above-extent c =
 
 pub returns : goal.returns
 returns c =
-    elim c.if-i-m.branch
-    [ then-i-m+else-above-extent w ↦
-        λ b y. number-over b _ _ _ _ y _ _ _ _ _ (omega (arith, c.requires.1)) (omega arith) (omega arith) w.wrapping_sub_u64-above.ensures.value w.wrapping_sub_u64-extent.ensures.value w.if-above-extent.false c.refuse.ensures
-    | else-i-m w ↦ λ b y. number-missing b _ _ _ _ y _ _ _ w.if-i-m.false c.refuse.ensures ]
+    elim c.if-i-m.branch [
+      | then-i-m+else-above-extent w ↦
+          λ b y. number-over b _ _ _ _ y _ _ _ _ _ (omega (arith, c.requires.1)) (omega arith) (omega arith) w.wrapping_sub_u64-above.ensures.value w.wrapping_sub_u64-extent.ensures.value w.if-above-extent.false c.refuse.ensures
+      | else-i-m w ↦ λ b y. number-missing b _ _ _ _ y _ _ _ w.if-i-m.false c.refuse.ensures
+    ]

@@ -12,6 +12,7 @@ returns-in-0 c =
 
 pub returns : goal.returns
 returns c =
-    elim c.if-i-m.branch
-    [ then-i-m+in_default w ↦ λ b y. reason_other b _ _ _ _ y _ (omega arith) (omega arith) c.refuse.ensures
-    | else-i-m w ↦ λ b y. reason-missing b _ _ _ _ y _ w.if-i-m.false c.refuse.ensures ]
+    elim c.if-i-m.branch [
+      | then-i-m+in_default w ↦ λ b y. reason_other b _ _ _ _ y _ (omega arith) (omega arith) c.refuse.ensures
+      | else-i-m w ↦ λ b y. reason-missing b _ _ _ _ y _ w.if-i-m.false c.refuse.ensures
+    ]

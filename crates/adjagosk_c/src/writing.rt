@@ -1,0 +1,20 @@
+// The writer of fixture frames for programs in C and Rust.
+ghost use Rattle.record_lists.specs.Message.{write-message};
+ghost use Rattle.adjagosk.specs.Frames.{FillsFrame};
+
+use adjagosk::writing::Frame;
+
+#[unsafe(no_mangle)]
+pub extern "C" fn adjagosk_write(
+    kind: u64,
+    direction: u64,
+    down: &[u8],
+    up: &[u8],
+    words: &[u64],
+    source: &[u8],
+    out: &mut [u8],
+) -> Frame
+    ensures { FillsFrame result out.new (write-message kind direction down.now up.now words.now source.now out.old) }
+{
+    adjagosk::writing::adjagosk_write(kind, direction, down, up, words, source, out)
+}
