@@ -1,4 +1,6 @@
 // A frame read into spare words first. Where its records do not fit those, it is read again into the lent ones.
+#![tactic(auto)]
+
 ghost use Rattle.std.specs.Prelude.{◌≡◌, ℕ, ◌+◌, ◌*◌, ◌≤◌, ◌<◌, ◌^◌, length, List};
 ghost use Rattle.answers.specs.Says.{Says};
 ghost use Rattle.atn.specs.Entries.{Reply, accept, pdus, read_frame, settle};
