@@ -1,7 +1,7 @@
 // Association control: `parse_acse_apdu`. The message is read as a value first, and its records, three at most, are written once it is known that they fit.
 #![tactic(auto)]
 
-ghost use Rattle.atn.specs.Entries.{parse-acse-apdu};
+ghost use Rattle.atn.specs.Entries.{parse_acse_apdu};
 ghost use Rattle.answers.specs.Says.{Says};
 
 use answers::{Answer, LONGEST_FRAME};
@@ -9,7 +9,7 @@ use answers::{Answer, LONGEST_FRAME};
 mod telling; // telling.rt: its records, in lent words
 
 pub fn parse_acse_apdu(frame: &[u8], words: &mut [u64]) -> Answer
-    ensures { Says result words.new (parse-acse-apdu frame.now words.old) }
+    ensures { Says result words.new (parse_acse_apdu frame.now words.old) }
 {
     if LONGEST_FRAME < frame.len() {
         return Answer::Refused {

@@ -2,7 +2,7 @@
 ghost use Rattle.std.specs.Prelude.{◌≡◌, ◌+◌, ◌<◌, ◌≤◌, ◌^◌, length, ◌∷◌, ◌++◌};
 ghost use Rattle.atn.specs.Entries.{settle};
 ghost use Rattle.atn.specs.Reading.{rec};
-ghost use Rattle.atn.specs.Tags.{acse-pdu};
+ghost use Rattle.atn.specs.Tags.{acse_pdu};
 ghost use Rattle.records.specs.Space.{space};
 ghost use Rattle.records.specs.Told.{Told};
 ghost use Rattle.answers.specs.Says.{Says};
@@ -39,7 +39,7 @@ fn tell(words: &mut [u64], n: usize, note: Note) -> usize
 // All records of a message, from the front on.
 fn tell_all(words: &mut [u64], message: Message) -> usize
     requires { space (1 + length (note_recs message.first) + length (note_recs message.next)) ≤ length words.old }
-    ensures { Told 3 words.old words.new 0 result (rec acse-pdu 0 message.pdu message.second message.at ∷ note_recs message.first ++ note_recs message.next) }
+    ensures { Told 3 words.old words.new 0 result (rec acse_pdu 0 message.pdu message.second message.at ∷ note_recs message.first ++ note_recs message.next) }
 {
     let first = message.first;
     let next = message.next;

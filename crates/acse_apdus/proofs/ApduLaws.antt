@@ -73,10 +73,10 @@ start s = record { at = 0; end = length s * 8; why = 0; marks = 0 }
 
 -- behind the index, which starts at the place o
 abbrev Index : List ℕ → ℕ → ℕ → ℕ → ℕ → Ans
-Index s o i u q = then (ok q (rec tag.acse-pdu 0 i 0 o ∷ []) 0) λ r. read_choice pdus i (0, 0) (bit_of s) u r
+Index s o i u q = then (ok q (rec tag.acse_pdu 0 i 0 o ∷ []) 0) λ r. read_choice pdus i (0, 0) (bit_of s) u r
 
 abbrev Header : List ℕ → ℕ → ℕ → ℕ → Ans
-Header s v u q = fork v (read (choice tag.acse-pdu pdus) (0, 0) (bit_of s) u q) (then (ok q [] (mark 2)) λ r. read (extended tag.acse-pdu) (0, 0) (bit_of s) u r)
+Header s v u q = fork v (read (choice tag.acse_pdu pdus) (0, 0) (bit_of s) u q) (then (ok q [] (mark 2)) λ r. read (extended tag.acse_pdu) (0, 0) (bit_of s) u r)
 
 -- a reading that has stopped, and one that goes on
 stopped-reply : (c : Cursor) (k : ℕ → Ans) → (c.why ≡ 0 → ⊥) → reply (then (so_far c []) k) ≡ ran_out c.at (c.why / 16)
@@ -87,7 +87,7 @@ going : (c : Cursor) (k : ℕ → Ans) → c.why ≡ 0 → then (so_far c []) k 
 unfolding then
 going c k z = rw (so_far_on c [] z)
 
-extension-reply : (s : List ℕ) (v u q m : ℕ) → (v ≡ 0 → ⊥) → reply (glue [] m (Header s v u q)) ≡ accept false q (or m 2) (rec tag.acse-pdu 0 0 1 q ∷ [])
+extension-reply : (s : List ℕ) (v u q m : ℕ) → (v ≡ 0 → ⊥) → reply (glue [] m (Header s v u q)) ≡ accept false q (or m 2) (rec tag.acse_pdu 0 0 1 q ∷ [])
 unfolding reply glue then fork read mark or
 extension-reply s zero u q m n = absurd (n refl)
 extension-reply s (suc v) u q m n = refl
@@ -95,7 +95,7 @@ extension-reply s (suc v) u q m n = refl
 body_reply : (s : List ℕ) (c : Cursor) (o i : ℕ) (r : Body) → i < 5 → c.why ≡ 0 → Inside s c → Chosen s c i r → reply (then (so_far c []) (λ p. Index s o i c.end p)) ≡ reply_of (heard_of i 0 o r)
 unfolding then
 body_reply s c o i r l z y t =
-    let Q : List Rec = rec tag.acse-pdu 0 i 0 o ∷ [] in
+    let Q : List Rec = rec tag.acse_pdu 0 i 0 o ∷ [] in
     let a : Ans = read_choice bodies i (0, 0) (bit_of s) c.end c.at in
     let h : glue Q c.marks a ≡ so_far r.c (Q ++ body_recs r) = rw (so_far_on c Q z) at ((t.grows.grew y).gives Q) in
     rw (going c (λ p. Index s o i c.end p) z, pdu_body i (bit_of s) c.end c.at l, ← (glue-glue [] Q c.marks 0 (softly 7 true a)), or_nil c.marks)
@@ -127,7 +127,7 @@ module _ {s : List ℕ} {g : Got} (x : Pulls s (start s) 1 g) where
       behind-index : read_frame acse s ≡ reply (then (so_far h.c []) (λ p. Index s g.c.at h.v h.c.end p))
       unfolding fork read width width_in highest count
       behind-index =
-          let k : ℕ → Ans = λ p. read (choice tag.acse-pdu pdus) (0, 0) (bit_of s) g.c.end p in
+          let k : ℕ → Ans = λ p. read (choice tag.acse_pdu pdus) (0, 0) (bit_of s) g.c.end p in
           behind-extension ∙ rw o (ap reply (so_far_same g.c [] k (λ p. Behind s 3 (Index s g.c.at) g.c.end p) (λ z. refl) ∙ pulled_step 3 h (Index s g.c.at) [] (y.gave inside)))
 
       pub hears_no_index : (h.c.why ≡ 0 → ⊥) → Hears s (RanOut h.c.at (h.c.why / 16))

@@ -11,7 +11,7 @@ use Rattle.acse_apdus.specs.declared.Apdu.TheVariants.{Heard, RanOut, Badly}
 use Rattle.acse_reasons.specs.Notes.{note_recs}
 
 abbrev pub message_reply : Message → Reply
-message_reply m = accept m.cut m.reach m.marks (rec tag.acse-pdu 0 m.pdu m.second m.at ∷ note_recs m.first ++ note_recs m.next)
+message_reply m = accept m.cut m.reach m.marks (rec tag.acse_pdu 0 m.pdu m.second m.at ∷ note_recs m.first ++ note_recs m.next)
 
 abbrev pub reply_of : Apdu → Reply
 reply_of (Heard m) = message_reply m

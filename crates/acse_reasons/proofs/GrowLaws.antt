@@ -10,7 +10,7 @@ use Rattle.cursor.specs.declared.place.Cursor.{Cursor}
 use Rattle.cursor.specs.declared.place.Got.{Got}
 use Rattle.cursor.specs.Place.{number, put, stopped, marked, Inside, Pulled, stuck, short, got, Pulls}
 use Rattle.cursor.proofs.Laws.{Behind}
-use Rattle.acse_reasons.specs.SoFar.{so_far, Grew, Grows}
+use Rattle.acse_reasons.specs.SoFar.{so_far, Grows}
 
 ---------------------------------------------------------------- the answer so far
 

@@ -1,4 +1,4 @@
-/* The four entries of Adjagosk, and its writer, for C: link libadjagosk.a, which `rt staticlib adjagosk` writes (x86-64).
+/* The four entries of Adjagosk, and its writer, for C: link libadjagosk.a, which `tools/library` writes (x86-64).
 
    Each takes a frame and lends words for the records; all memory is the caller's. It writes nothing but the words
    given, reads nothing but what is passed, keeps nothing, and always returns. No pointer may be null, also where the

@@ -1,6 +1,8 @@
 // The four entries, and the writer, for programs in C and Rust: the crate adjagosk_c exports them, and include/adjagosk.h beside src/ has them for C. A slice is a pointer and a length there.
+#![tactic(auto)]
+
 ghost use Rattle.std.specs.Prelude.{◌≡◌};
-ghost use Rattle.atn.specs.Entries.{parse-apdu, parse-pdus, parse-cm, parse-acse-apdu};
+ghost use Rattle.atn.specs.Entries.{parse_apdu, parse_pdus, parse_cm, parse_acse_apdu};
 ghost use Rattle.answers.specs.Says.{answer_of};
 ghost use Rattle.adjagosk.specs.Gives.{Gives, numbers_of};
 
@@ -25,7 +27,7 @@ pub struct Numbers {
 }
 
 pub fn adjagosk_apdu(frame: &[u8], down: &[u8], up: &[u8], words: &mut [u64]) -> Numbers
-    ensures { Gives result words.new (parse-apdu frame.now down.now up.now words.old) }
+    ensures { Gives result words.new (parse_apdu frame.now down.now up.now words.old) }
 {
     let a = parse_apdu(frame, down, up, words);
     in_numbers(a)
@@ -38,21 +40,21 @@ pub fn adjagosk_pdus(
     up: &[u8],
     words: &mut [u64],
 ) -> Numbers
-    ensures { Gives result words.new (parse-pdus frame.now direction down.now up.now words.old) }
+    ensures { Gives result words.new (parse_pdus frame.now direction down.now up.now words.old) }
 {
     let a = parse_pdus(frame, direction, down, up, words);
     in_numbers(a)
 }
 
 pub fn adjagosk_cm(frame: &[u8], direction: u64, words: &mut [u64]) -> Numbers
-    ensures { Gives result words.new (parse-cm frame.now direction words.old) }
+    ensures { Gives result words.new (parse_cm frame.now direction words.old) }
 {
     let a = parse_cm(frame, direction, words);
     in_numbers(a)
 }
 
 pub fn adjagosk_acse(frame: &[u8], words: &mut [u64]) -> Numbers
-    ensures { Gives result words.new (parse-acse-apdu frame.now words.old) }
+    ensures { Gives result words.new (parse_acse_apdu frame.now words.old) }
 {
     let a = parse_acse_apdu(frame, words);
     in_numbers(a)

@@ -1,6 +1,6 @@
 // The writer of fixture frames for programs in C and Rust.
 ghost use Rattle.std.specs.Prelude.{◌≡◌};
-ghost use Rattle.record_lists.specs.Message.{write-message};
+ghost use Rattle.record_lists.specs.Message.{write_message};
 ghost use Rattle.fixture_writer.specs.Says.{answer_of};
 ghost use Rattle.adjagosk.specs.Frames.{FillsFrame, frame_of};
 
@@ -24,7 +24,7 @@ pub fn adjagosk_write(
     source: &[u8],
     out: &mut [u8],
 ) -> Frame
-    ensures { FillsFrame result out.new (write-message kind direction down.now up.now words.now source.now out.old) }
+    ensures { FillsFrame result out.new (write_message kind direction down.now up.now words.now source.now out.old) }
 {
     let a = write_message(kind, direction, down, up, words, source, out);
     in_frame(a)

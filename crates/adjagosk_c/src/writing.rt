@@ -1,5 +1,5 @@
 // The writer of fixture frames for programs in C and Rust.
-ghost use Rattle.record_lists.specs.Message.{write-message};
+ghost use Rattle.record_lists.specs.Message.{write_message};
 ghost use Rattle.adjagosk.specs.Frames.{FillsFrame};
 
 use adjagosk::writing::Frame;
@@ -14,7 +14,7 @@ pub extern "C" fn adjagosk_write(
     source: &[u8],
     out: &mut [u8],
 ) -> Frame
-    ensures { FillsFrame result out.new (write-message kind direction down.now up.now words.now source.now out.old) }
+    ensures { FillsFrame result out.new (write_message kind direction down.now up.now words.now source.now out.old) }
 {
     adjagosk::writing::adjagosk_write(kind, direction, down, up, words, source, out)
 }

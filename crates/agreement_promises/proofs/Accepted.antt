@@ -9,7 +9,7 @@ use Rattle.x691.specs.Bits.{bit_of}
 use Rattle.atn.specs.Format.{Fmt, out, bad, lack, quit}
 use Rattle.atn.specs.Reading.{Rec, Ans, ok, past, stop}
 use Rattle.atn.specs.Messages.{aircraft_pdus, ground_pdus, cm_aircraft, cm_ground, acse}
-use Rattle.atn.specs.Entries.{Reply, stopped, reply, read_frame, or_else, flat, Test, decide, enter, pdus, parse-pdus, parse-apdu, cm_of, parse-cm, parse-acse-apdu}
+use Rattle.atn.specs.Entries.{Reply, stopped, reply, read_frame, or_else, flat, Test, decide, enter, pdus, parse_pdus, parse_apdu, cm_of, parse_cm, parse_acse_apdu}
 use Rattle.record_views.specs.View.{records_from}
 use Rattle.element_kinds.specs.Agreed.{agreed}
 use Rattle.fixture_promises.proofs.Words.{records-flat}
@@ -143,18 +143,18 @@ decide-agreed : (ts : List Test) (r : Reply) (w : List ℕ) → Agreeing r → A
 decide-agreed ts r w h = decide-good _ (λ (x : List ℕ). agreed (records_from 0 x) ≡ true) agreed-flat ts r w (λ _. h)
 
 -- whatever the frame, the direction, the tables and the lent words
-pub parse-pdus-agreed : (s : List ℕ) (d : ℕ) (down up w : List ℕ) → Agreed (parse-pdus s d down up w)
-unfolding parse-pdus enter
+pub parse-pdus-agreed : (s : List ℕ) (d : ℕ) (down up w : List ℕ) → Agreed (parse_pdus s d down up w)
+unfolding parse_pdus enter
 parse-pdus-agreed s d down up w = decide-agreed _ _ w (either_agrees down up _ (pdus-good down up d s))
 
-pub parse-apdu-agreed : (s down up w : List ℕ) → Agreed (parse-apdu s down up w)
-unfolding parse-apdu enter
+pub parse-apdu-agreed : (s down up w : List ℕ) → Agreed (parse_apdu s down up w)
+unfolding parse_apdu enter
 parse-apdu-agreed s down up w = decide-agreed _ _ w (either_agrees down up _ (apdu-good down up s))
 
-pub parse-cm-agreed : (s : List ℕ) (d : ℕ) (w : List ℕ) → Agreed (parse-cm s d w)
-unfolding parse-cm enter
+pub parse-cm-agreed : (s : List ℕ) (d : ℕ) (w : List ℕ) → Agreed (parse_cm s d w)
+unfolding parse_cm enter
 parse-cm-agreed s d w = decide-agreed _ _ w (cm_agrees d s)
 
-pub parse-acse-apdu-agreed : (s w : List ℕ) → Agreed (parse-acse-apdu s w)
-unfolding parse-acse-apdu enter
+pub parse-acse-apdu-agreed : (s w : List ℕ) → Agreed (parse_acse_apdu s w)
+unfolding parse_acse_apdu enter
 parse-acse-apdu-agreed s w = decide-agreed _ _ w (acse_agrees s)

@@ -50,7 +50,7 @@ module _ (E : List State → List State → List State → List State) where
     back (ext f g) N G F = (back f N G F ∪ back g N G F) ∪ F
     back (seq fs) N G F = back_fields fs N G F ∪ F
     back (loose fs) N G F = back_fields fs N G F ∪ F
-    back (choice t fs) N G F = cond (eqb t tags.element-index) (E N G F) (told t (back_alts fs N G F)) ∪ F
+    back (choice t fs) N G F = cond (eqb t tags.element_index) (E N G F) (told t (back_alts fs N G F)) ∪ F
     back (many lo hi f) N G F = items lo (λ M. back f M G F) (closure 4 (λ M. back f M G F) N) ∪ F
     back (inner f) N G F = back f N N F ∪ F
     back (soft m r f) N G F = back f N G (F ∪ cond r N []) ∪ N

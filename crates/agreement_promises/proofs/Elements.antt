@@ -69,10 +69,10 @@ module _ (T : List ℕ) (N G F : List State) where
       elements-behind (n ∷ L) (suc i) = elements-behind L i
 
 -- with the index
-pub element-front : (T : List ℕ) (N G F : List State) (i m p at : ℕ) (x : Ctx) (b : ℕ → ℕ) (e : ℕ) → Front (table_kind T) N G F (back_element N G F) (then (ok p (rec tags.element-index m i 0 at ∷ []) 0) λ q. read_choice (elements T) i x b e q)
+pub element-front : (T : List ℕ) (N G F : List State) (i m p at : ℕ) (x : Ctx) (b : ℕ → ℕ) (e : ℕ) → Front (table_kind T) N G F (back_element N G F) (then (ok p (rec tags.element_index m i 0 at ∷ []) 0) λ q. read_choice (elements T) i x b e q)
 unfolding back_element
 element-front T N G F i m p at x b e = go (elements_fit N G F) refl
   where
-    go : (t : Bool) → elements_fit N G F ≡ t → Front (table_kind T) N G F (cond t indexed anything) (then (ok p (rec tags.element-index m i 0 at ∷ []) 0) λ q. read_choice (elements T) i x b e q)
+    go : (t : Bool) → elements_fit N G F ≡ t → Front (table_kind T) N G F (cond t indexed anything) (then (ok p (rec tags.element_index m i 0 at ∷ []) 0) λ q. read_choice (elements T) i x b e q)
     go true h = let z = elements-behind T N G F x b e p h T i in front-behind (table_kind T) _ _ _ _ _ _ _ _ _ (λ S c. index_covered (table_kind T) m i 0 at S z.0 z.1 c) z.2
     go false h = front_lost (table_kind T) N G F _

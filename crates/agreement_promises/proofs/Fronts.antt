@@ -107,11 +107,11 @@ module _ (K : ℕ → ℕ) where
   refused N G F (quit o j k) at m = λ S c. left_of K S G F c
 
 module _ (K : ℕ → ℕ) (T : List ℕ) (E : List State → List State → List State → List State)
-    (E-front : (N G F : List State) (i m p at : ℕ) (x : Ctx) (b : ℕ → ℕ) (e : ℕ) → Front K N G F (E N G F) (then (ok p (rec tags.element-index m i 0 at ∷ []) 0) λ q. read_choice (elements T) i x b e q)) where
+    (E-front : (N G F : List State) (i m p at : ℕ) (x : Ctx) (b : ℕ → ℕ) (e : ℕ) → Front K N G F (E N G F) (then (ok p (rec tags.element_index m i 0 at ∷ []) 0) λ q. read_choice (elements T) i x b e q)) where
   -- a choice, by what its alternatives do
-  choices : (c : Bool) (t : ℕ) → eqb t tags.element-index ≡ c → (fs : Alts) (N G F A : List State) (i m p at : ℕ) (x : Ctx) (b : ℕ → ℕ) (e : ℕ) → Front K N G F A (read_choice fs i x b e p) →
+  choices : (c : Bool) (t : ℕ) → eqb t tags.element_index ≡ c → (fs : Alts) (N G F A : List State) (i m p at : ℕ) (x : Ctx) (b : ℕ → ℕ) (e : ℕ) → Front K N G F A (read_choice fs i x b e p) →
       Front K N G F (cond c (E N G F) (told t A)) (then (ok p (rec t m i 0 at ∷ []) 0) λ q. read_choice (cond c (elements T) fs) i x b e q)
-  choices true t w fs N G F A i m p at x b e f = rw (eqb-true t tags.element-index w) (E-front N G F i m p at x b e)
+  choices true t w fs N G F A i m p at x b e f = rw (eqb-true t tags.element_index w) (E-front N G F i m p at x b e)
   choices false t w fs N G F A i m p at x b e f = front-behind K _ _ _ _ _ _ _ _ _ (one_told K t m i 0 at A) f
 
   mutual
@@ -160,9 +160,9 @@ module _ (K : ℕ → ℕ) (T : List ℕ) (E : List State → List State → Lis
         front-fetch K _ _ _ _ (λ S c. right_of K S X F c) b e at (flags (over_fields T fs)) _ _ (front-late K _ _ _ _ _ 1 [] _ _ (λ S c. left_of K S X F c) (fronts_fields fs N G F x (within b e) e at (at + (e - at)))) λ _.
         front_quiet K _ _ _ _ _ _ _ (front-left K _ _ _ X F _ (fronts_fields fs N G F x b e at (at + flags (over_fields T fs))))
     fronts (choice t fs) N G F x b e at =
-        let X = cond (eqb t tags.element-index) (E N G F) (told t (back_alts E fs N G F)) in
-        let w = width (highest (alternatives_of (cond (eqb t tags.element-index) (elements T) (over_alts T fs)))) in
-        front-pull K _ _ _ _ (λ S c. right_of K S X F c) b e at w _ λ i. front-left K _ _ _ X F _ (choices (eqb t tags.element-index) t refl (over_alts T fs) N G F (back_alts E fs N G F) i x.0 (at + w) at x b e (fronts_alts fs N G F i x b e (at + w)))
+        let X = cond (eqb t tags.element_index) (E N G F) (told t (back_alts E fs N G F)) in
+        let w = width (highest (alternatives_of (cond (eqb t tags.element_index) (elements T) (over_alts T fs)))) in
+        front-pull K _ _ _ _ (λ S c. right_of K S X F c) b e at w _ λ i. front-left K _ _ _ X F _ (choices (eqb t tags.element_index) t refl (over_alts T fs) N G F (back_alts E fs N G F) i x.0 (at + w) at x b e (fronts_alts fs N G F i x b e (at + w)))
     fronts (many lo hi f) N G F x b e at =
         let h : List State → List State = λ M. back E f M G F in
         let X = items lo h (closure 4 h N) in

@@ -19,9 +19,9 @@ unfolding ended tag is_last
 last_first [] h = refl
 last_first (x ∷ R) h = (both (is_last (fetched x).tag) (ended R) h).0
 
-no_index : (t : ℕ) → is_last t ≡ true → eqb t tags.element-index ≡ false
+no_index : (t : ℕ) → is_last t ≡ true → eqb t tags.element_index ≡ false
 unfolding is_last
-no_index t h = go (eqb t tags.element-index) h
+no_index t h = go (eqb t tags.element_index) h
   where
     go : (u : Bool) → cond u false (cond (eqb t tags.clearance) false true) ≡ true → u ≡ false
     go true q = sym q
@@ -44,7 +44,7 @@ module _ (K : ℕ → ℕ) where
   keeps-later : (i : ℕ) (R : List Rec) → keeps K R ≡ true → later_agree i (K i) R ≡ true
   unfolding keeps keeps_one later_agree one_agrees
   keeps-later i [] h = refl
-  keeps-later i (x ∷ R) h = let z = both (keeps_one K x R) (keeps K R) h in rw (keeps-later i R z.1, here (eqb (fetched x).tag tags.element-index) z.0) refl
+  keeps-later i (x ∷ R) h = let z = both (keeps_one K x R) (keeps K R) h in rw (keeps-later i R z.1, here (eqb (fetched x).tag tags.element_index) z.0) refl
     where
       same : (u : Bool) → eqb (fetched x).value i ≡ u → fits (K (fetched x).value) (kind_of R) (ended R) ≡ true → cond u (kind_agrees (K i) (kind_of R) (tag R 0)) true ≡ true
       same true q g = rw (← eqb-true (fetched x).value i q) (fits_agrees (K (fetched x).value) R g)
@@ -57,7 +57,7 @@ module _ (K : ℕ → ℕ) where
   pub keeps-agreed : (R : List Rec) → keeps K R ≡ true → agreed R ≡ true
   unfolding keeps keeps_one agreed element_agrees fits
   keeps-agreed [] h = refl
-  keeps-agreed (x ∷ R) h = let z = both (keeps_one K x R) (keeps K R) h in rw (keeps-agreed R z.1, here (eqb (fetched x).tag tags.element-index) z.0 z.1) refl
+  keeps-agreed (x ∷ R) h = let z = both (keeps_one K x R) (keeps K R) h in rw (keeps-agreed R z.1, here (eqb (fetched x).tag tags.element_index) z.0 z.1) refl
     where
       kind : (u : Bool) → eqb (kind_of R) (K (fetched x).value) ≡ u → u || (eqb (kind_of R) 0 && ended R) ≡ true → keeps K R ≡ true → later_agree (fetched x).value (kind_of R) R ≡ true
       kind true q g l = rw (eqb-true (kind_of R) (K (fetched x).value) q) (keeps-later (fetched x).value R l)

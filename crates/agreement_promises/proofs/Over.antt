@@ -30,7 +30,7 @@ module _ (T : List ℕ) where
     over (ext f g) = ext (over f) (over g)
     over (seq fs) = seq (over_fields fs)
     over (loose fs) = loose (over_fields fs)
-    over (choice t fs) = choice t (cond (eqb t tags.element-index) (elements T) (over_alts fs))
+    over (choice t fs) = choice t (cond (eqb t tags.element_index) (elements T) (over_alts fs))
     over (many lo hi f) = many lo hi (over f)
     over (inner f) = inner (over f)
     over (soft m r f) = soft m r (over f)

@@ -11,7 +11,7 @@ use Rattle.atn.specs.Places.{Rising}
 use Rattle.atn.proofs.Inverse.{both}
 use Rattle.atn.proofs.Places.{rising_to, frame_rising, apdu_rising}
 use Rattle.atn.specs.Messages.{aircraft_pdus, ground_pdus, acse}
-use Rattle.atn.specs.Entries.{Reply, accept, ran_out, badly, unsupplied, flat, frame-fits, Test, test, decide, enter, pdus, parse-pdus, parse-apdu, cm_of, parse-cm, parse-acse-apdu}
+use Rattle.atn.specs.Entries.{Reply, accept, ran_out, badly, unsupplied, flat, frame_fits, Test, test, decide, enter, pdus, parse_pdus, parse_apdu, cm_of, parse_cm, parse_acse_apdu}
 use Rattle.record_views.specs.View.{records_from}
 use Rattle.fixture_promises.proofs.Words.{records-flat}
 use Rattle.screen.specs.Placed.{begins, placed}
@@ -31,8 +31,8 @@ rising_placed lo (rec t m v s q ∷ R) h g = let k = both (begins (rec t m v s q
 abbrev Climbs : List ℕ → Reply → Type 0
 Climbs s r = (cut : Bool) (p m : ℕ) (R : List Rec) → r ≡ accept cut p m R → Rising 0 R p × (p ≤ length s * 8)
 
-climbs_placed : (s : List ℕ) (r : Reply) → Climbs s r → Good (λ R. begun R ≡ true) r → frame-fits s ≡ true → Good (λ R. placed 0 R ≡ true) r
-unfolding Good frame-fits
+climbs_placed : (s : List ℕ) (r : Reply) → Climbs s r → Good (λ R. begun R ≡ true) r → frame_fits s ≡ true → Good (λ R. placed 0 R ≡ true) r
+unfolding Good frame_fits
 climbs_placed s (accept cut p m R) h g f = let x = h cut p m R refl in let l = leb-true (length s) 65536 f in rising_placed 0 R (rising_to 0 p 524288 R (omega (arith, x.1)) x.0) g
 climbs_placed s (ran_out p k) h g f = tt
 climbs_placed s (badly p) h g f = tt
@@ -45,22 +45,22 @@ unfolding records_from
 placed-flat R h = rw (records-flat R) h
 
 -- the frame is the first that is tested
-enter-placed : (s : List ℕ) (n : ℕ) (ts : List Test) (r : Reply) (w : List ℕ) → Climbs s r → Good (λ R. begun R ≡ true) r → Placed (decide (test (frame-fits s) n ∷ ts) r w)
-enter-placed s n ts r w h g = decide-good _ (λ (x : List ℕ). placed 0 (records_from 0 x) ≡ true) placed-flat (test (frame-fits s) n ∷ ts) r w (λ p. climbs_placed s r h g p.0)
+enter-placed : (s : List ℕ) (n : ℕ) (ts : List Test) (r : Reply) (w : List ℕ) → Climbs s r → Good (λ R. begun R ≡ true) r → Placed (decide (test (frame_fits s) n ∷ ts) r w)
+enter-placed s n ts r w h g = decide-good _ (λ (x : List ℕ). placed 0 (records_from 0 x) ≡ true) placed-flat (test (frame_fits s) n ∷ ts) r w (λ p. climbs_placed s r h g p.0)
 
 -- whatever the frame, the direction, the tables and the lent words
-pub parse-pdus-placed : (s : List ℕ) (d : ℕ) (down up w : List ℕ) → Placed (parse-pdus s d down up w)
-unfolding parse-pdus enter
+pub parse-pdus-placed : (s : List ℕ) (d : ℕ) (down up w : List ℕ) → Placed (parse_pdus s d down up w)
+unfolding parse_pdus enter
 parse-pdus-placed s d down up w = enter-placed s _ _ _ w (λ cut p m R h. frame_rising s (pdus d down up) h) (pdus-begun d down up s)
 
-pub parse-apdu-placed : (s down up w : List ℕ) → Placed (parse-apdu s down up w)
-unfolding parse-apdu enter
+pub parse-apdu-placed : (s down up w : List ℕ) → Placed (parse_apdu s down up w)
+unfolding parse_apdu enter
 parse-apdu-placed s down up w = enter-placed s _ _ _ w (λ cut p m R h. apdu_rising s (aircraft_pdus down) (ground_pdus down up) h) (apdu-begun down up s)
 
-pub parse-cm-placed : (s : List ℕ) (d : ℕ) (w : List ℕ) → Placed (parse-cm s d w)
-unfolding parse-cm enter
+pub parse-cm-placed : (s : List ℕ) (d : ℕ) (w : List ℕ) → Placed (parse_cm s d w)
+unfolding parse_cm enter
 parse-cm-placed s d w = enter-placed s _ _ _ w (λ cut p m R h. frame_rising s (cm_of d) h) (cm-begun d s)
 
-pub parse-acse-apdu-placed : (s w : List ℕ) → Placed (parse-acse-apdu s w)
-unfolding parse-acse-apdu enter
+pub parse-acse-apdu-placed : (s w : List ℕ) → Placed (parse_acse_apdu s w)
+unfolding parse_acse_apdu enter
 parse-acse-apdu-placed s w = enter-placed s _ _ _ w (λ cut p m R h. frame_rising s acse h) (acse-begun s)

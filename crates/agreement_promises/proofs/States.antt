@@ -24,7 +24,7 @@ pub data State : Type 0 where
 -- the records are so
 abbrev pub Covers : (ℕ → ℕ) → State → List Rec → Type 0
 Covers K lost R = Unit {0}
-Covers K (seen k s e) R = (keeps K R ≡ true) × (kind_of R ≡ k) × (eqb (tag R 0) tags.speed-type ≡ s) × (ended R ≡ e)
+Covers K (seen k s e) R = (keeps K R ≡ true) × (kind_of R ≡ k) × (eqb (tag R 0) tags.speed_type ≡ s) × (ended R ≡ e)
 
 -- one of these
 abbrev pub Covered : (ℕ → ℕ) → List State → List Rec → Type 0
@@ -80,17 +80,17 @@ module _ (K : ℕ → ℕ) (R : List Rec) where
 
 unfoldable pub step : ℕ → State → State
 step t lost = lost
-step t (seen k s e) = cond (eqb t tags.element-index) lost (seen (kind_by t (cond s tags.speed-type 0)) (eqb t tags.speed-type) (is_last t && e))
+step t (seen k s e) = cond (eqb t tags.element_index) lost (seen (kind_by t (cond s tags.speed_type 0)) (eqb t tags.speed_type) (is_last t && e))
 
 unfoldable pub told : ℕ → List State → List State
 told t A = sets.each inside (λ x. step t x) A
 
 -- of the second tag it only matters whether it is a speed type
-kind_second : (t u : ℕ) → kind_by t u ≡ kind_by t (cond (eqb u tags.speed-type) tags.speed-type 0)
+kind_second : (t u : ℕ) → kind_by t u ≡ kind_by t (cond (eqb u tags.speed_type) tags.speed_type 0)
 unfolding kind_by
-kind_second t u = go (eqb u tags.speed-type) refl
+kind_second t u = go (eqb u tags.speed_type) refl
   where
-    go : (s : Bool) → eqb u tags.speed-type ≡ s → kind_by t u ≡ kind_by t (cond s tags.speed-type 0)
+    go : (s : Bool) → eqb u tags.speed_type ≡ s → kind_by t u ≡ kind_by t (cond s tags.speed_type 0)
     go true q = rw q refl
     go false q = rw q refl
 
@@ -98,11 +98,11 @@ module _ (K : ℕ → ℕ) (t m v n q : ℕ) (R : List Rec) where
   step_covers : (x : State) → Covers K x R → Covers K (step t x) (rec t m v n q ∷ R)
   unfolding step keeps keeps_one kind_of tag ended
   step_covers lost g = tt
-  step_covers (seen k s e) g = go (eqb t tags.element-index) refl
+  step_covers (seen k s e) g = go (eqb t tags.element_index) refl
     where
-      go : (u : Bool) → eqb t tags.element-index ≡ u → Covers K (cond u lost (seen (kind_by t (cond s tags.speed-type 0)) (eqb t tags.speed-type) (is_last t && e))) (rec t m v n q ∷ R)
+      go : (u : Bool) → eqb t tags.element_index ≡ u → Covers K (cond u lost (seen (kind_by t (cond s tags.speed_type 0)) (eqb t tags.speed_type) (is_last t && e))) (rec t m v n q ∷ R)
       go true p = tt
-      go false p = (rw p g.0, kind_second t (tag R 0) ∙ ap (λ (z : Bool). kind_by t (cond z tags.speed-type 0)) g.2, refl, ap (λ (z : Bool). is_last t && z) g.3)
+      go false p = (rw p g.0, kind_second t (tag R 0) ∙ ap (λ (z : Bool). kind_by t (cond z tags.speed_type 0)) g.2, refl, ap (λ (z : Bool). is_last t && z) g.3)
 
   pub told_covered : (A : List State) → Covered K A R → Covered K (told t A) (rec t m v n q ∷ R)
   unfolding told
@@ -123,12 +123,12 @@ abbrev pub indexed : List State
 indexed = seen 0 false false ∷ []
 
 module _ (K : ℕ → ℕ) (m v n q : ℕ) (R : List Rec) where
-  fit_covers : (x : State) → fit (K v) x ≡ true → Covers K x R → Covered K indexed (rec tags.element-index m v n q ∷ R)
+  fit_covers : (x : State) → fit (K v) x ≡ true → Covers K x R → Covered K indexed (rec tags.element_index m v n q ∷ R)
   unfolding fit
   fit_covers lost h g = let z : ◌≡◌ {A = ℕ} 0 1 = cc in absurd (omega arith)
   fit_covers (seen k s e) h g = inl (unfold keeps keeps_one in rw (g.1, g.3, h) g.0, unfold kind_of kind_by tag in refl, unfold tag in refl, unfold ended is_last in refl)
 
-  pub index_covered : (A : List State) → all_fit (K v) A ≡ true → Covered K A R → Covered K indexed (rec tags.element-index m v n q ∷ R)
+  pub index_covered : (A : List State) → all_fit (K v) A ≡ true → Covered K A R → Covered K indexed (rec tags.element_index m v n q ∷ R)
   unfolding all_fit
   index_covered [] h g = absurd g
   index_covered (x ∷ A) h (inl g) = fit_covers x (both (fit (K v) x) (all_fit (K v) A) h).0 g

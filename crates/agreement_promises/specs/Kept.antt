@@ -25,7 +25,7 @@ fits k kind end = eqb kind k || (eqb kind 0 && end)
 
 -- a record, and those behind it, where K is the kind by the index
 unfoldable pub keeps_one : (ℕ → ℕ) → Rec → List Rec → Bool
-keeps_one K x R = cond (eqb (fetched x).tag tags.element-index) (fits (K (fetched x).value) (kind_of R) (ended R)) true
+keeps_one K x R = cond (eqb (fetched x).tag tags.element_index) (fits (K (fetched x).value) (kind_of R) (ended R)) true
 
 unfoldable pub keeps : (ℕ → ℕ) → List Rec → Bool
 keeps K [] = true

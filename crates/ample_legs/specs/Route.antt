@@ -21,4 +21,4 @@ legs =
     ∥ none_left
 
 abbrev pub route_information : Fmt
-route_information = choice tag.route-information legs
+route_information = choice tag.route_information legs

@@ -14,7 +14,6 @@ use Rattle.angles.specs.declared.Form.{Form}
 use Rattle.angles.specs.declared.FormAt.{FormAt}
 use Rattle.angles.specs.declared.Angle.{Angle}
 use Rattle.angles.specs.declared.AngleAt.{AngleAt}
-use Rattle.angles.specs.declared.MaybeAngle.{MaybeAngle}
 use Rattle.angles.specs.declared.MaybeAngleAt.{MaybeAngleAt}
 use Rattle.angles.specs.declared.Pair.{Pair}
 use Rattle.angles.specs.declared.PairAt.{PairAt}
@@ -60,7 +59,7 @@ unless_absent zero R = []
 unless_absent (suc h) R = R
 
 unfoldable pub pair_recs : Pair → ℕ → List Rec
-pair_recs v n = rec 34 n 0 0 v.at ∷ (unless_absent v.latitude.has (angle_recs (bits rows.latitude-thousandths) (bits rows.latitude-degrees) 35 v.latitude.angle n) ++ unless_absent v.longitude.has (angle_recs (bits rows.longitude-thousandths) (bits rows.longitude-degrees) 42 v.longitude.angle n))
+pair_recs v n = rec 34 n 0 0 v.at ∷ (unless_absent v.latitude.has (angle_recs (bits rows.latitude_thousandths) (bits rows.latitude_degrees) 35 v.latitude.angle n) ++ unless_absent v.longitude.has (angle_recs (bits rows.longitude_thousandths) (bits rows.longitude_degrees) 42 v.longitude.angle n))
 
 abbrev pub maybe_pair_recs : MaybePair → ℕ → List Rec
 maybe_pair_recs v n = unless_absent v.has (pair_recs v.pair n)

@@ -1,4 +1,6 @@
 // `apdu-lines` of document 01: a frame in hexadecimal a line in, what `parse_apdu` says of it a line out. A line has up to 131,072 digits, which are decoded into the one frame as they come. The files `stdin` and `stdout` are document 01's, with cases behind them.
+#![tactic(auto)]
+
 ghost use Rattle.std.specs.Prelude.{length};
 ghost use Rattle.line_flow.specs.Flow.{Runs};
 

@@ -26,19 +26,19 @@ argument_body (suc k) = get_or message.arguments k message.no_reader
 unfoldable pub argument_recs : List ℕ → Argument → ℕ → List Rec
 argument_recs s Nothing n = []
 argument_recs s (Position v) n = position_recs s v n
-argument_recs s (Speed v) n = quantity_recs tag.speed tag.speed-number v n
-argument_recs s (SpeedType v) n = name_recs tag.speed-type v n
+argument_recs s (Speed v) n = quantity_recs tag.speed tag.speed_number v n
+argument_recs s (SpeedType v) n = name_recs tag.speed_type v n
 argument_recs s (SpeedTypes v) n = triple_recs v n
-argument_recs s (Level v) n = quantity_recs tag.level tag.level-number v n
-argument_recs s (Degrees v) n = quantity_recs tag.degrees tag.degrees-number v n
+argument_recs s (Level v) n = quantity_recs tag.level tag.level_number v n
+argument_recs s (Degrees v) n = quantity_recs tag.degrees tag.degrees_number v n
 argument_recs s (Frequency v) n = frequency_recs s v n
 argument_recs s (Code v) n = code_recs v n
 argument_recs s (TrafficType v) n = name_recs tag.traffic_type v n
 argument_recs s (ClearanceType v) n = name_recs tag.clearance_type v n
-argument_recs s (ErrorInformation v) n = name_recs tag.error-information v n
+argument_recs s (ErrorInformation v) n = name_recs tag.error_information v n
 argument_recs s (FacilityFunction v) n = name_recs tag.facility_function v n
-argument_recs s (Procedure v) n = procedure_recs tag.procedure tag.procedure-name tag.procedure-transition s v n
-argument_recs s (Runway v) n = runway_recs tag.runway tag.runway-side v n
+argument_recs s (Procedure v) n = procedure_recs tag.procedure tag.procedure_name tag.procedure_transition s v n
+argument_recs s (Runway v) n = runway_recs tag.runway tag.runway_side v n
 argument_recs s (Coordinates v) n = pair_recs v n
 argument_recs s (Departure v) n = departure_recs s v n
 

@@ -1,10 +1,10 @@
 -- The formats are the schema's types with tags and tolerance added: their types are the schema's.
-use mathlib.Core.Path.{◌≡◌, refl, sym, ◌∙◌}
-use mathlib.Core.List.{List, [], ◌∷◌, map}
+use mathlib.Core.Path.{◌≡◌, refl, sym}
+use mathlib.Core.List.{List, [], ◌∷◌}
 use Prim.Native.Nat.{ℕ, zero, suc}
 use lib.ListN.{get_or, get_or-map}
-use Rattle.x691.specs.Types.{Asn, UNLISTED}
-use Rattle.atn.specs.Format.{Fmt, type_of, alternatives_of}
+use Rattle.x691.specs.Types.{UNLISTED}
+use Rattle.atn.specs.Format.{type_of, alternatives_of}
 use Rattle.atn.specs.Schema.{argument_types, MsgElementId, AircraftPDUs, GroundPDUs, CMGroundMessage, CMAircraftMessage, ACSE-apdu}
 use Rattle.atn.specs.Messages.{arguments, argument_of, no_reader, elements, aircraft_pdus, ground_pdus, cm_ground, cm_aircraft, acse}
 

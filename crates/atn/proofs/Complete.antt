@@ -1,25 +1,23 @@
 -- Complete: bits that begin with the encoding of a value are read as that value's records, with no mark.
-use mathlib.Core.Path.{◌≡◌, refl, sym, ap, ◌∙◌}
-use mathlib.Core.Bool.{Bool, true, false, cond}
+use mathlib.Core.Path.{◌≡◌, refl, ap, ◌∙◌}
 use mathlib.Core.Option.{Option, none, some}
-use mathlib.Core.Logic.{◌⊎◌, inl, inr}
+use mathlib.Core.Logic.{inl, inr}
 use mathlib.Core.List.{List, [], ◌∷◌, ◌++◌}
-use Prim.Native.Nat.{ℕ, zero, suc, ◌+◌, ◌-◌, ◌*◌, ◌^◌, ◌≤◌, ◌<◌}
-use native.Mathlib.Nat.{add_assoc, add-zero}
+use Prim.Native.Nat.{ℕ, suc, ◌+◌, ◌-◌, ◌*◌, ◌^◌, ◌≤◌, ◌<◌}
+use native.Mathlib.Nat.{add-zero}
 use native.Mathlib.Numerals.{add-one}
 use native.Mathlib.Omega.{arith}
 use lib.ListN.{length, length-append}
-use lib.Dec.{leb}
 use borrow.Author.Tests.{le-leb, eq-eqb}
 use Rattle.x691.specs.Bits.{bits_of, Spells}
-use Rattle.x691.specs.Types.{Value, Values, Pick, extent, UNLISTED, Alternatives, NONE, ◌∣◌}
-use Rattle.x691.specs.Encoding.{width, length_bits, size_bits, unit_bits, joined, if_any, flag, preamble, count, highest, index, encode, encode_members, encode_pick}
-use Rattle.x691.specs.Range.{member, InRange, AllInRange, PickInRange}
+use Rattle.x691.specs.Types.{Value, Values, Pick, extent, UNLISTED, Alternatives}
+use Rattle.x691.specs.Encoding.{width, length_bits, size_bits, unit_bits, joined, if_any, flag, preamble, highest, index, encode, encode_members, encode_pick}
+use Rattle.x691.specs.Range.{InRange, AllInRange, PickInRange}
 use Rattle.x691.proofs.BitLaws.{spells_fst, spells_snd, length-bits_of}
 use Rattle.atn.specs.Format.{Fmt, num, listed, name, text, span, any_span, skipped, small, null, noted, placed, marked, refuse, element, ext, seq, loose, choice, many, inner, soft, lax}
 use Rattle.atn.specs.Format.{Flds, end, ◌⨾◌, ◌⨾?◌, or_note, unread, Alts, none_left, ◌∥◌, type_of, members_of, alternatives_of, Letters}
-use Rattle.atn.specs.Reading.{Rec, rec, Ctx, Ans, ok, past, stop, glue, then, times, fork, guard, or, unless, over, word, lettered, spanned, fetch, pull, letters, units, flags, unread_mark, unread_marks, close, softly, laxly, read, read_fields, read_choice}
-use Rattle.atn.specs.Told.{tell_any, tell_all, tell, tell_fields, tell_pick}
+use Rattle.atn.specs.Reading.{Rec, rec, Ctx, Ans, ok, then, fork, guard, or, unless, lettered, spanned, fetch, pull, flags, unread_mark, unread_marks, close, softly, laxly, read, read_fields, read_choice}
+use Rattle.atn.specs.Told.{tell, tell_fields, tell_pick}
 use Rattle.x691.proofs.Widths.{width-holds, width-pow, index-highest}
 use Rattle.atn.proofs.Steps.{then-nil, then_go, over_in, fetch_go, pull_go, pull-spelt, pull-bit, length-size, sized_go, length-units, letters_go, units_back, length_go, times_go, any_go}
 

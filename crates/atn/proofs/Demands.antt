@@ -14,14 +14,14 @@ use Rattle.x691.specs.Encoding.{encode}
 use Rattle.x691.proofs.BitLaws.{bit_of-lt, bit_of_agree}
 use Rattle.atn.specs.Format.{Fmt, Why, out, bad, lack, quit, type_of}
 use Rattle.atn.specs.Reading.{Rec, Ans, ok, past, stop, or, mark, read}
-use Rattle.atn.specs.Entries.{Reply, accept, ran_out, badly, unsupplied, stopped, reply, read_frame, accepted, refused, flat, need, settle, Test, test, enter, frame-fits}
+use Rattle.atn.specs.Entries.{Reply, accept, ran_out, badly, unsupplied, stopped, reply, read_frame, accepted, refused, flat, need, settle, Test, test, enter, frame_fits}
 use Rattle.atn.specs.Demands.{passes, Agree, Message, Shares, Longer, CutOrOut, cut, ended, Enough, NoRoom}
 use Rattle.atn.proofs.Inverse.{both, nil_fst, mark_pos}
 use Rattle.atn.proofs.Complete.{complete}
 use Rattle.atn.proofs.Sound.{FoundF, sound}
 use Rattle.atn.proofs.Readings.{reply_reach, closed, Keeps, format_keeps}
 use Rattle.atn.proofs.Longer.{GoesOn}
-use Rattle.atn.proofs.Outcomes.{early, Settled, Refused, settle-fits, settle_full, settle-refused, decide_go, decide-accepted, decide-kept, decide-refused}
+use Rattle.atn.proofs.Outcomes.{early, Settled, settle-fits, settle_full, settle-refused, decide_go, decide-accepted, decide-kept, decide-refused}
 
 ---------------------------------------------------------------- clean answers are messages
 
@@ -55,16 +55,16 @@ message-clean f s p R m =
 
 module _ (ts : List Test) (F : List ℕ → Reply) (keeps : Keeps F) where
   -- an accepted answer, taken back to the reading
-  pub taken : (s w : List ℕ) {c : Bool} {p m k : ℕ} {w' : List ℕ} → enter ts F s w ≡ (accepted c p m k, w') → (frame-fits s ≡ true) × (passes ts ≡ true) × Settled (F s) w c p m k w'
+  pub taken : (s w : List ℕ) {c : Bool} {p m k : ℕ} {w' : List ℕ} → enter ts F s w ≡ (accepted c p m k, w') → (frame_fits s ≡ true) × (passes ts ≡ true) × Settled (F s) w c p m k w'
   unfolding enter passes
   taken s w h =
-      let x = decide-accepted (test (frame-fits s) 1 ∷ ts) (F s) w h in
-      let y = both (frame-fits s) (passes ts) x.0 in
+      let x = decide-accepted (test (frame_fits s) 1 ∷ ts) (F s) w h in
+      let y = both (frame_fits s) (passes ts) x.0 in
       (y.0, y.1, x.1)
 
-  pub entered : (s w : List ℕ) → frame-fits s ≡ true → passes ts ≡ true → enter ts F s w ≡ settle (F s) w
+  pub entered : (s w : List ℕ) → frame_fits s ≡ true → passes ts ≡ true → enter ts F s w ≡ settle (F s) w
   unfolding enter passes
-  entered s w h g = decide_go (test (frame-fits s) 1 ∷ ts) (F s) w (rw (h, g))
+  entered s w h g = decide_go (test (frame_fits s) 1 ∷ ts) (F s) w (rw (h, g))
 
   -- demand 3: a whole answer holds for every frame that shares its bits and has at least as much room, with the same records and marks
   pub whole_again : (s t w v : List ℕ) {p m k : ℕ} {w' : List ℕ} → enter ts F s w ≡ (accepted false p m k, w') → Shares s t w v p
@@ -86,8 +86,8 @@ module _ (ts : List Test) (F : List ℕ → Reply) (keeps : Keeps F) where
   pub bad_again : (s t w v : List ℕ) {p k l : ℕ} {w' : List ℕ} → early ts ≡ true → enter ts F s w ≡ (refused 5 p k l, w') → Shares s t w v p → enter ts F t v ≡ (refused 5 p k l, v)
   unfolding enter closed reply_reach passes early settle
   bad_again s t w v {p} {k} {l} e h g =
-      let x = (decide-refused (test (frame-fits s) 1 ∷ ts) (F s) w h).late e (omega arith) in
-      let y = both (frame-fits s) (passes ts) x.0 in
+      let x = (decide-refused (test (frame_fits s) 1 ∷ ts) (F s) w h).late e (omega arith) in
+      let y = both (frame_fits s) (passes ts) x.0 in
       let z = (settle-refused (F s) w x.1).3 refl in
       let i : F s ≡ badly p = z.0 in
       let j : F t ≡ F s = keeps.again s t (rw i) (rw i g.bits) (rw i g.there) in
@@ -103,7 +103,7 @@ module _ (ts : List Test) (F : List ℕ → Reply) (keeps : Keeps F) where
 
   -- cut to whole bytes with fewer than p bits and given enough room, the frame is cut or ran out
   pub cut_to : (s w v : List ℕ) (j : ℕ) {p m k : ℕ} {w' : List ℕ} → enter ts F s w ≡ (accepted false p m k, w') → j * 8 < p → Enough (F (take j s)) v → CutOrOut (enter ts F (take j s) v)
-  unfolding closed reply_reach frame-fits
+  unfolding closed reply_reach frame_fits
   cut_to s w v j {p} {m} {k} h l g =
       let x = taken s w h in
       let y = x.2 in
@@ -118,22 +118,22 @@ module _ (ts : List Test) (F : List ℕ → Reply) (keeps : Keeps F) where
   -- the lent words keep their number
   pub words-kept : (s w : List ℕ) → length (enter ts F s w).1 ≡ length w
   unfolding enter
-  words-kept s w = decide-kept (test (frame-fits s) 1 ∷ ts) (F s) w
+  words-kept s w = decide-kept (test (frame_fits s) 1 ∷ ts) (F s) w
 
   -- a refusal leaves the lent words
   pub words_left : (s w : List ℕ) {n p k l : ℕ} {w' : List ℕ} → enter ts F s w ≡ (refused n p k l, w') → w' ≡ w
   unfolding enter
-  words_left s w h = (decide-refused (test (frame-fits s) 1 ∷ ts) (F s) w h).left
+  words_left s w h = (decide-refused (test (frame_fits s) 1 ∷ ts) (F s) w h).left
 
   -- no room is said exactly where an accepted reading's records do not fit
-  pub room-refused : (s w : List ℕ) {p k l : ℕ} {w' : List ℕ} → early ts ≡ true → enter ts F s w ≡ (refused 7 p k l, w') → (frame-fits s ≡ true) × (passes ts ≡ true) × NoRoom (F s) w p k w'
+  pub room-refused : (s w : List ℕ) {p k l : ℕ} {w' : List ℕ} → early ts ≡ true → enter ts F s w ≡ (refused 7 p k l, w') → (frame_fits s ≡ true) × (passes ts ≡ true) × NoRoom (F s) w p k w'
   unfolding enter passes early
   room-refused s w e h =
-      let x = (decide-refused (test (frame-fits s) 1 ∷ ts) (F s) w h).late e (omega arith) in
-      let y = both (frame-fits s) (passes ts) x.0 in
+      let x = (decide-refused (test (frame_fits s) 1 ∷ ts) (F s) w h).late e (omega arith) in
+      let y = both (frame_fits s) (passes ts) x.0 in
       (y.0, y.1, (settle-refused (F s) w x.1).2 refl)
 
-  pub refused-room : (s w : List ℕ) (c : Bool) (p m : ℕ) (R : List Rec) → frame-fits s ≡ true → passes ts ≡ true → F s ≡ accept c p m R → length w < need R → enter ts F s w ≡ (refused 7 p (need R) 0, w)
+  pub refused-room : (s w : List ℕ) (c : Bool) (p m : ℕ) (R : List Rec) → frame_fits s ≡ true → passes ts ≡ true → F s ≡ accept c p m R → length w < need R → enter ts F s w ≡ (refused 7 p (need R) 0, w)
   refused-room s w c p m R h g i l = entered s w h g ∙ rw i (settle_full c p m R w l)
 
   -- the reach never exceeds the frame's bits
@@ -143,18 +143,18 @@ module _ (ts : List Test) (F : List ℕ → Reply) (keeps : Keeps F) where
 
   pub refused-inside : (s w : List ℕ) {n p k l : ℕ} {w' : List ℕ} → enter ts F s w ≡ (refused n p k l, w') → p ≤ length s * 8
   unfolding enter
-  refused-inside s w h = elim (decide-refused (test (frame-fits s) 1 ∷ ts) (F s) w h).reached [ inl x ↦ omega arith | inr x ↦ omega (arith, keeps.inside s) ]
+  refused-inside s w h = elim (decide-refused (test (frame_fits s) 1 ∷ ts) (F s) w h).reached [ inl x ↦ omega arith | inr x ↦ omega (arith, keeps.inside s) ]
 
   -- only "ran out" has bits that were lacked
   pub lacked-none : (s w : List ℕ) {n p k l : ℕ} {w' : List ℕ} → enter ts F s w ≡ (refused n p k l, w') → (n ≡ 4 → ⊥) → l ≡ 0
   unfolding enter
-  lacked-none s w h = (decide-refused (test (frame-fits s) 1 ∷ ts) (F s) w h).idle
+  lacked-none s w h = (decide-refused (test (frame_fits s) 1 ∷ ts) (F s) w h).idle
 
   -- "ran out", taken back to the reading
   ran : (s w : List ℕ) {p k l : ℕ} {w' : List ℕ} → early ts ≡ true → enter ts F s w ≡ (refused 4 p k l, w') → F s ≡ ran_out p l
   unfolding enter early
   ran s w e h =
-      let x = (decide-refused (test (frame-fits s) 1 ∷ ts) (F s) w h).late e (omega arith) in
+      let x = (decide-refused (test (frame_fits s) 1 ∷ ts) (F s) w h).late e (omega arith) in
       (settle-refused (F s) w x.1).4 refl
 
   module _ (goes : GoesOn F) (e : early ts ≡ true) where
@@ -177,6 +177,6 @@ module _ (ts : List Test) (f : Fmt) where
       (y.recs, clean-message f s p y.recs y.replied, y.counted, y.words)
 
   -- and every message of the schema, with room enough, is given a clean answer
-  pub clean_complete : (s w : List ℕ) (p : ℕ) (R : List Rec) → frame-fits s ≡ true → passes ts ≡ true → Message f s p R → need R ≤ length w
+  pub clean_complete : (s w : List ℕ) (p : ℕ) (R : List Rec) → frame_fits s ≡ true → passes ts ≡ true → Message f s p R → need R ≤ length w
       → enter ts (λ t. read_frame f t) s w ≡ (accepted false p 0 (length R), flat R ++ drop (need R) w)
   clean_complete s w p R h g m l = entered ts (λ t. read_frame f t) (format_keeps f) s w h g ∙ rw (message-clean f s p R m) (settle-fits false p 0 R w l)

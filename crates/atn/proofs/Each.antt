@@ -5,7 +5,7 @@ use mathlib.Core.List.{List, []}
 use Prim.Native.Nat.{ℕ, zero, suc}
 use Rattle.atn.specs.Format.{Fmt}
 use Rattle.atn.specs.Messages.{aircraft_pdus, ground_pdus, acse}
-use Rattle.atn.specs.Entries.{Reply, read_frame, or_else, Test, enter, pdus, pdus_tests, apdu_tests, parse-pdus, parse-apdu, cm_of, cm_tests, parse-cm, parse-acse-apdu}
+use Rattle.atn.specs.Entries.{Reply, read_frame, or_else, Test, enter, pdus, pdus_tests, apdu_tests, parse_pdus, parse_apdu, cm_of, cm_tests, parse_cm, parse_acse_apdu}
 use Rattle.atn.specs.Demands.{Owes, ReadsClean}
 use Rattle.atn.proofs.Readings.{Keeps, format_keeps, both_keep}
 use Rattle.atn.proofs.Tame.{keeps_stop, tame, tame_fields, tame_choice}
@@ -50,32 +50,32 @@ acse_frank : frank acse ≡ true
 unfolding tame tame_fields tame_choice keeps_stop
 acse_frank = refl
 
-pub parse-pdus_owes : (d : ℕ) (down up : List ℕ) → Owes (pdus_tests d down up) (λ s. read_frame (pdus d down up) s) (λ s w. parse-pdus s d down up w)
-unfolding parse-pdus early
+pub parse-pdus_owes : (d : ℕ) (down up : List ℕ) → Owes (pdus_tests d down up) (λ s. read_frame (pdus d down up) s) (λ s w. parse_pdus s d down up w)
+unfolding parse_pdus early
 parse-pdus_owes d down up = owes (pdus_tests d down up) (λ s. read_frame (pdus d down up) s) (format_keeps (pdus d down up)) (format_goes (pdus d down up) (pdus_frank d down up)) refl
 
-pub parse-apdu_owes : (down up : List ℕ) → Owes (apdu_tests down up) (λ s. or_else (read_frame (aircraft_pdus down) s) (read_frame (ground_pdus down up) s)) (λ s w. parse-apdu s down up w)
-unfolding parse-apdu early pdus
+pub parse-apdu_owes : (down up : List ℕ) → Owes (apdu_tests down up) (λ s. or_else (read_frame (aircraft_pdus down) s) (read_frame (ground_pdus down up) s)) (λ s w. parse_apdu s down up w)
+unfolding parse_apdu early pdus
 parse-apdu_owes down up =
     owes (apdu_tests down up) (λ s. or_else (read_frame (aircraft_pdus down) s) (read_frame (ground_pdus down up) s)) (both_keep (λ s. read_frame (aircraft_pdus down) s) (λ s. read_frame (ground_pdus down up) s) (format_keeps (aircraft_pdus down)) (format_keeps (ground_pdus down up)))
     (both_goes (λ s. read_frame (aircraft_pdus down) s) (λ s. read_frame (ground_pdus down up) s) (format_far (aircraft_pdus down) (pdus_frank 0 down up)) (format_far (ground_pdus down up) (pdus_frank 1 down up))) refl
 
-pub parse-cm_owes : (d : ℕ) → Owes (cm_tests d) (λ s. read_frame (cm_of d) s) (λ s w. parse-cm s d w)
-unfolding parse-cm early
+pub parse-cm_owes : (d : ℕ) → Owes (cm_tests d) (λ s. read_frame (cm_of d) s) (λ s w. parse_cm s d w)
+unfolding parse_cm early
 parse-cm_owes d = owes (cm_tests d) (λ s. read_frame (cm_of d) s) (format_keeps (cm_of d)) (format_goes (cm_of d) (cm_frank d)) refl
 
-pub parse-acse-apdu_owes : Owes [] (λ s. read_frame acse s) (λ s w. parse-acse-apdu s w)
-unfolding parse-acse-apdu early
+pub parse-acse-apdu_owes : Owes [] (λ s. read_frame acse s) (λ s w. parse_acse_apdu s w)
+unfolding parse_acse_apdu early
 parse-acse-apdu_owes = owes [] (λ s. read_frame acse s) (format_keeps acse) (format_goes acse acse_frank) refl
 
-pub parse-pdus-clean : (d : ℕ) (down up : List ℕ) → ReadsClean (pdus_tests d down up) (pdus d down up) (λ s w. parse-pdus s d down up w)
-unfolding parse-pdus
+pub parse-pdus-clean : (d : ℕ) (down up : List ℕ) → ReadsClean (pdus_tests d down up) (pdus d down up) (λ s w. parse_pdus s d down up w)
+unfolding parse_pdus
 parse-pdus-clean d down up = reads_clean (pdus_tests d down up) (pdus d down up)
 
-pub parse-cm-clean : (d : ℕ) → ReadsClean (cm_tests d) (cm_of d) (λ s w. parse-cm s d w)
-unfolding parse-cm
+pub parse-cm-clean : (d : ℕ) → ReadsClean (cm_tests d) (cm_of d) (λ s w. parse_cm s d w)
+unfolding parse_cm
 parse-cm-clean d = reads_clean (cm_tests d) (cm_of d)
 
-pub parse-acse-apdu-clean : ReadsClean [] acse (λ s w. parse-acse-apdu s w)
-unfolding parse-acse-apdu
+pub parse-acse-apdu-clean : ReadsClean [] acse (λ s w. parse_acse_apdu s w)
+unfolding parse_acse_apdu
 parse-acse-apdu-clean = reads_clean [] acse

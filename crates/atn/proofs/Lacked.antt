@@ -1,21 +1,19 @@
 -- What the bits lacked are worth: "a frame longer by at least that many bits no longer stops at that same read". A reading that has passed the end of its window is, in a window that ends as many bits later, read at least up to there.
 use mathlib.Core.Path.{◌≡◌, refl, sym, ap, ◌∙◌}
-use mathlib.Core.Bool.{Bool, true, false, ◌&&◌}
+use mathlib.Core.Bool.{Bool, true, false}
 use mathlib.Core.List.{List, [], ◌∷◌}
 use Prim.Native.Nat.{ℕ, zero, suc, ◌+◌, ◌-◌, ◌*◌, ◌≤◌, ◌<◌}
-use native.Mathlib.Nat.{add_assoc}
 use native.Mathlib.Omega.{arith}
-use lib.Dec.{ltb}
 use Rattle.x691.specs.Bits.{uint}
 use Rattle.x691.specs.Types.{extent}
 use Rattle.x691.specs.Encoding.{width, highest}
 use Rattle.atn.specs.Format.{Fmt, num, listed, name, text, span, any_span, skipped, small, null, noted, placed, marked, refuse, element, ext, seq, loose, choice, many, inner, soft, lax}
 use Rattle.atn.specs.Format.{Flds, end, ◌⨾◌, ◌⨾?◌, or_note, unread, Alts, none_left, ◌∥◌, alternatives_of, Why, out, bad, lack, quit}
-use Rattle.atn.specs.Reading.{Rec, rec, word, Ctx, Ans, ok, past, stop, glue, tardy, late, then, times, fork, guard, unless, over, fetch, pull, sized, letters, units, short, long, fragment, lengths, length_then, flags, unread_marks, within, close, shut, softly, pass_over, laxly, give_up, read, read_fields, read_choice}
+use Rattle.atn.specs.Reading.{Rec, rec, word, Ctx, Ans, ok, past, stop, glue, tardy, late, then, times, fork, guard, fetch, pull, sized, letters, short, long, fragment, lengths, length_then, flags, unread_marks, within, close, shut, softly, pass_over, laxly, give_up, read, read_fields, read_choice}
 use Rattle.atn.specs.Demands.{Agree}
-use Rattle.atn.proofs.Steps.{fetch_go, fetch_no, pull_go, pull_no}
+use Rattle.atn.proofs.Steps.{fetch_go, fetch_no}
 use Rattle.atn.proofs.Inverse.{both}
-use Rattle.atn.proofs.Reach.{reach, is_open, split, glue-is, late_is, soft_is, lax_is, close-is, mono_pull, mono_then, mono_times, mono_fork, mono_guard, Rises, mono_sized, mono_letters, mono_short, mono_long, mono_fragment, mono_lengths, mono_length, mono, mono_fields, mono_choice, in_window}
+use Rattle.atn.proofs.Reach.{reach, is_open, split, glue-is, late_is, soft_is, lax_is, close_is, mono_pull, mono_then, mono_times, mono_fork, mono_guard, Rises, mono_letters, mono_short, mono_long, mono_fragment, mono_lengths, mono_length, mono, mono_fields, mono_choice, in_window}
 use Rattle.atn.proofs.SameBits.{agree_le, same_bits}
 use Rattle.atn.proofs.Stable.{stable}
 use Rattle.atn.proofs.Tame.{Kind, keeps_stop, tame, tame_fields, tame_choice}
@@ -272,8 +270,8 @@ module _ (b c : ℕ → ℕ) (e u : ℕ) (ag : Agree b c e) (le : e ≤ u) where
         grow_sized at lo hi _ _ (λ k q. mono_times _ (λ i p. mono c f (x.0, i) u p) 1 k q) λ k q z.
         grow_times e u _ _ (λ i p r. grow f (x.0, i) p r h) (λ i p r. read_again f (x.0, i) p r) (λ i p. mono c f (x.0, i) u p) 1 k q z
     grow (inner f) x at l h =
-        grow_length at _ _ (λ k q. mono_pull c u q k _ λ _. omega (arith, close-is (q + k) (read f x c (q + k) q))) λ k q z.
-        grow_pull q k _ _ (λ _. omega (arith, close-is (q + k) (read f x c (q + k) q))) (λ _ _. grow_close e u (q + k) (read f x b (q + k) q))
+        grow_length at _ _ (λ k q. mono_pull c u q k _ λ _. omega (arith, close_is (q + k) (read f x c (q + k) q))) λ k q z.
+        grow_pull q k _ _ (λ _. omega (arith, close_is (q + k) (read f x c (q + k) q))) (λ _ _. grow_close e u (q + k) (read f x b (q + k) q))
     grow (soft m r f) x at l h =
         let y : reach (softly m r (read f x c u at)) ≡ reach (read f x c u at) = (soft_is m r (read f x c u at)).0 in
         grow_soft e u m r (read f x b e at) (grow_on e u (omega arith) (grow f x at l h))

@@ -1,6 +1,6 @@
 -- Sets of marks joined: the order does not matter.
 use mathlib.Core.Path.{◌≡◌, refl, sym, ap, ◌∙◌}
-use Prim.Native.Nat.{ℕ, ◌+◌, ◌*◌, ◌/◌, ◌%◌, ◌≤◌, ◌<◌, max}
+use Prim.Native.Nat.{ℕ, ◌/◌, ◌%◌, ◌<◌, max}
 use native.Mathlib.Omega.{arith}
 use lib.Arith.{bin_ind}
 use lib.Bits.{bit_or, or_step, or_zero_r, or_comm}

@@ -1,16 +1,15 @@
 -- The places of the records of a reading rise from where it begins to where it ends.
-use mathlib.Core.Path.{◌≡◌, refl, sym, ap, ◌∙◌}
+use mathlib.Core.Path.{◌≡◌}
 use mathlib.Core.Bool.{Bool, true, false, cond}
 use mathlib.Core.List.{List, [], ◌∷◌, ◌++◌}
-use Prim.Native.Nat.{ℕ, zero, suc, ◌+◌, ◌-◌, ◌*◌, ◌/◌, ◌≤◌, ◌<◌, max}
+use Prim.Native.Nat.{ℕ, zero, suc, ◌+◌, ◌-◌, ◌*◌, ◌/◌, ◌≤◌, max}
 use native.Mathlib.Omega.{arith}
 use lib.ListN.{length, drop}
 use Rattle.x691.specs.Bits.{bit_of, uint}
-use Rattle.x691.specs.Types.{extent}
-use Rattle.x691.specs.Encoding.{width, highest}
+use Rattle.x691.specs.Encoding.{width}
 use Rattle.atn.specs.Format.{Fmt, num, listed, name, text, span, any_span, skipped, small, null, noted, placed, marked, refuse, element, ext, seq, loose, choice, many, inner, soft, lax}
-use Rattle.atn.specs.Format.{Flds, end, ◌⨾◌, ◌⨾?◌, or_note, unread, Alts, none_left, ◌∥◌, alternatives_of, Letters, first, numeric, Why, out, bad, lack, quit}
-use Rattle.atn.specs.Reading.{Rec, rec, Ctx, Ans, ok, past, stop, glue, late, then, times, fork, guard, fetch, pull, sized, letters, units, packs, pack, coded, spaced, none_above, lettered, spanned, kept, short, long, fragment, lengths, length_then, flags, unread_marks, within, close, shut, softly, pass_over, laxly, give_up, read, read_fields, read_choice}
+use Rattle.atn.specs.Format.{Flds, end, ◌⨾◌, ◌⨾?◌, or_note, unread, Alts, none_left, ◌∥◌, Letters, first, numeric, out, bad, lack, quit}
+use Rattle.atn.specs.Reading.{Rec, rec, Ctx, Ans, ok, past, stop, glue, late, then, times, fork, guard, fetch, pull, sized, letters, units, packs, pack, coded, spaced, none_above, lettered, spanned, kept, short, long, fragment, lengths, length_then, flags, within, close, shut, softly, pass_over, laxly, give_up, read, read_fields, read_choice}
 use Rattle.atn.specs.Entries.{Reply, accept, ran_out, badly, unsupplied, stopped, reply, read_frame, after_out, after_bad, or_else}
 use Rattle.atn.specs.Places.{Rising}
 use Rattle.atn.proofs.Steps.{fetch_go, fetch_no}

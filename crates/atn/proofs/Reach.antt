@@ -1,11 +1,10 @@
 -- The reach of an answer: it never falls, and it is within the window.
-use mathlib.Core.Path.{◌≡◌, refl, sym, ap, ◌∙◌}
-use mathlib.Core.Bool.{Bool, true, false, cond}
-use mathlib.Core.List.{List, [], ◌∷◌, ◌++◌}
+use mathlib.Core.Path.{◌≡◌, refl}
+use mathlib.Core.Bool.{Bool, true, false}
+use mathlib.Core.List.{List, []}
 use Prim.Native.Nat.{ℕ, zero, suc, ◌+◌, ◌-◌, ◌*◌, ◌≤◌, ◌<◌}
 use native.Mathlib.Nat.{add_assoc}
 use native.Mathlib.Omega.{arith}
-use lib.ListN.{length}
 use lib.Dec.{leb}
 use borrow.Author.Tests.{leb-true, leb-false}
 use Rattle.x691.specs.Bits.{uint}
@@ -13,7 +12,7 @@ use Rattle.x691.specs.Types.{extent}
 use Rattle.x691.specs.Encoding.{width, highest}
 use Rattle.atn.specs.Format.{Fmt, num, listed, name, text, span, any_span, skipped, small, null, noted, placed, marked, refuse, element, ext, seq, loose, choice, many, inner, soft, lax}
 use Rattle.atn.specs.Format.{Flds, end, ◌⨾◌, ◌⨾?◌, or_note, unread, Alts, none_left, ◌∥◌, alternatives_of, Why, out, bad, lack, quit}
-use Rattle.atn.specs.Reading.{Rec, Ctx, Ans, ok, past, stop, glue, tardy, late, then, times, fork, guard, fetch, pull, sized, letters, units, short, long, fragment, lengths, length_then, flags, unread_marks, within, close, shut, softly, pass_over, laxly, give_up, read, read_fields, read_choice}
+use Rattle.atn.specs.Reading.{Rec, Ctx, Ans, ok, past, stop, glue, tardy, late, then, times, fork, guard, fetch, pull, sized, letters, short, long, fragment, lengths, length_then, flags, unread_marks, within, close, shut, softly, pass_over, laxly, give_up, read, read_fields, read_choice}
 use Rattle.atn.proofs.Steps.{fetch_go, fetch_no}
 
 unfoldable pub reach : Ans → ℕ
@@ -98,11 +97,11 @@ shut-is (quit o false k) q p R m = refl
 shut-is (quit o true k) q p R m = refl
 
 -- "an inner bit string counts in full once it is taken"
-pub close-is : (q : ℕ) (a : Ans) → reach (close q a) ≡ q
+pub close_is : (q : ℕ) (a : Ans) → reach (close q a) ≡ q
 unfolding close reach
-close-is q (ok p R m) = refl
-close-is q (past k p R m) = refl
-close-is q (stop w p R m) = shut-is w q p R m
+close_is q (ok p R m) = refl
+close_is q (past k p R m) = refl
+close_is q (stop w p R m) = shut-is w q p R m
 
 ---------------------------------------------------------------- the reach does not fall
 
@@ -202,7 +201,7 @@ mutual
       mono_fetch b e at (flags fs) _ _ (omega (arith, (late_is 1 [] (unread_marks fs (within b e) at) (read_fields fs x (within b e) e at (at + (e - at)))).0, mono_fields (within b e) fs x e at (at + (e - at)))) λ _. mono_then (at + flags fs) _ _ (omega arith) (λ p. mono_fields b fs x e at p)
   mono b (choice t fs) x e at = mono_pull b e at _ _ λ i. mono_then (at + width (highest (alternatives_of fs))) _ _ (omega arith) (λ q. mono_choice b fs i x e q)
   mono b (many lo hi f) x e at = mono_sized b e at lo hi _ λ k q. mono_times _ (λ i p. mono b f (x.0, i) e p) 1 k q
-  mono b (inner f) x e at = mono_length b e at _ λ k q. mono_pull b e q k _ λ _. omega (arith, close-is (q + k) (read f x b (q + k) q))
+  mono b (inner f) x e at = mono_length b e at _ λ k q. mono_pull b e q k _ λ _. omega (arith, close_is (q + k) (read f x b (q + k) q))
   mono b (soft m r f) x e at = omega (arith, (soft_is m r (read f x b e at)).0, mono b f x e at)
   mono b (lax m j f) x e at = omega (arith, (lax_is m j (read f x b e at)).0, mono b f x e at)
 
@@ -296,7 +295,7 @@ mutual
       in_fetch b e at (flags fs) _ _ (omega (arith, (late_is 1 [] (unread_marks fs (within b e) at) (read_fields fs x (within b e) e at (at + (e - at)))).0, in_window_fields (within b e) fs x e at (at + (e - at)) (omega arith))) λ _ l. in_then e _ _ l (λ p y. in_window_fields b fs x e at p y)
   in_window b (choice t fs) x e at h = in_pull b e at _ _ h λ i l. in_then e _ _ l (λ q y. in_window_choice b fs i x e q y)
   in_window b (many lo hi f) x e at h = in_sized b e at lo hi _ h λ k q l. in_times e _ (λ i p y. in_window b f (x.0, i) e p y) 1 k q l
-  in_window b (inner f) x e at h = in_length b e 65537 at _ h λ k q l. in_pull b e q k _ l λ _ y. omega (arith, close-is (q + k) (read f x b (q + k) q))
+  in_window b (inner f) x e at h = in_length b e 65537 at _ h λ k q l. in_pull b e q k _ l λ _ y. omega (arith, close_is (q + k) (read f x b (q + k) q))
   in_window b (soft m r f) x e at h = omega (arith, (soft_is m r (read f x b e at)).0, in_window b f x e at h)
   in_window b (lax m j f) x e at h = omega (arith, (lax_is m j (read f x b e at)).0, in_window b f x e at h)
 

@@ -1,13 +1,13 @@
 -- What a reading of frames owes: a closed reply hangs on the bits up to its reach, cut short it is open, and the reach is within the frame. Proved of each format, and of `parse_apdu`'s combination of two readings.
 use mathlib.Core.Path.{◌≡◌, refl, sym, ap, ◌∙◌}
 use mathlib.Core.Bool.{Bool, true, false, not}
-use mathlib.Core.List.{List, []}
-use Prim.Native.Nat.{ℕ, zero, suc, ◌+◌, ◌*◌, ◌≤◌, ◌<◌, max}
+use mathlib.Core.List.{List}
+use Prim.Native.Nat.{ℕ, ◌*◌, ◌≤◌, ◌<◌, max}
 use native.Mathlib.Omega.{arith}
 use lib.ListN.{length}
 use Rattle.x691.specs.Bits.{bit_of}
 use Rattle.atn.specs.Format.{Fmt, Why, out, bad, lack, quit}
-use Rattle.atn.specs.Reading.{Rec, Ans, ok, past, stop, or, mark, read}
+use Rattle.atn.specs.Reading.{Ans, ok, past, stop, read}
 use Rattle.atn.specs.Entries.{Reply, accept, ran_out, badly, unsupplied, stopped, reply, read_frame, after_out, after_bad, or_else}
 use Rattle.atn.specs.Demands.{Agree}
 use Rattle.atn.proofs.Reach.{reach, opens, is_open, split, in_window}

@@ -1,18 +1,18 @@
 -- One window, the same bits: the same answer.
 use mathlib.Core.Path.{◌≡◌, refl, sym, ap, ◌∙◌, fun_ext}
 use mathlib.Core.Bool.{Bool, true, false, cond}
-use mathlib.Core.List.{List, [], ◌∷◌}
-use Prim.Native.Nat.{ℕ, zero, suc, ◌+◌, ◌-◌, ◌*◌, ◌≤◌, ◌<◌}
+use mathlib.Core.List.{List, []}
+use Prim.Native.Nat.{ℕ, zero, suc, ◌+◌, ◌-◌, ◌*◌, ◌≤◌}
 use native.Mathlib.Nat.{suc-mul, add_comm}
 use native.Mathlib.Omega.{arith}
 use lib.Dec.{leb, ltb}
 use borrow.Author.Tests.{ltb-true}
 use Rattle.x691.specs.Bits.{uint}
-use Rattle.x691.specs.Encoding.{width, highest}
+use Rattle.x691.specs.Encoding.{width}
 use Rattle.x691.proofs.BitLaws.{uint_agree}
 use Rattle.atn.specs.Format.{Fmt, num, listed, name, text, span, any_span, skipped, small, null, noted, placed, marked, refuse, element, ext, seq, loose, choice, many, inner, soft, lax}
 use Rattle.atn.specs.Format.{Flds, end, ◌⨾◌, ◌⨾?◌, or_note, unread, Alts, none_left, ◌∥◌, out}
-use Rattle.atn.specs.Reading.{Rec, Ctx, Ans, ok, stop, glue, late, then, times, fork, guard, unless, over, fetch, pull, sized, letters, units, lettered, short, long, fragment, lengths, length_then, flags, unread_marks, within, close, softly, laxly, read, read_fields, read_choice}
+use Rattle.atn.specs.Reading.{Ctx, Ans, ok, stop, glue, late, then, times, fork, guard, unless, over, fetch, pull, sized, letters, units, lettered, short, long, fragment, lengths, length_then, flags, unread_marks, within, close, softly, laxly, read, read_fields, read_choice}
 use Rattle.atn.specs.Demands.{Agree}
 use Rattle.atn.proofs.Steps.{fetch_go, fetch_no}
 use Rattle.atn.proofs.Reach.{split}

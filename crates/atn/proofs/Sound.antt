@@ -1,8 +1,8 @@
 -- Sound: what is read clean is the encoding of a value in range, and the records are that value's.
 use mathlib.Core.Path.{◌≡◌, refl, sym, ap, ◌∙◌}
-use mathlib.Core.Bool.{Bool, true, false, ◌&&◌}
-use mathlib.Core.Option.{Option, none, some}
-use mathlib.Core.Logic.{◌⊎◌, inl, inr}
+use mathlib.Core.Bool.{◌&&◌}
+use mathlib.Core.Option.{none, some}
+use mathlib.Core.Logic.{inl, inr}
 use mathlib.Core.List.{List, [], ◌∷◌, ◌++◌}
 use Prim.Native.Nat.{ℕ, zero, suc, ◌+◌, ◌-◌, ◌*◌, ◌^◌, ◌≤◌, ◌<◌}
 use native.Mathlib.Nat.{add-zero}
@@ -12,16 +12,16 @@ use lib.ListN.{length, length-append}
 use lib.Dec.{leb}
 use borrow.Author.Tests.{leb-true}
 use Rattle.x691.specs.Bits.{uint, bits_of, Spells}
-use Rattle.x691.specs.Types.{Value, Values, Pick, extent, ◌&?◌}
+use Rattle.x691.specs.Types.{extent, ◌&?◌}
 use Rattle.x691.specs.Encoding.{width, length_bits, size_bits, unit_bits, joined, if_any, flag, preamble, highest, index, encode, encode_members, encode_pick}
 use Rattle.x691.specs.Range.{member, All, InRange, AllInRange, PickInRange}
 use Rattle.x691.proofs.BitLaws.{uint-one, uint-lt, uint_spells, spells_join, length-bits_of}
 use Rattle.atn.specs.Format.{Fmt, num, listed, name, text, span, any_span, skipped, small, null, noted, placed, marked, refuse, element, ext, seq, loose, choice, many, inner, soft, lax}
 use Rattle.atn.specs.Format.{Flds, end, ◌⨾◌, ◌⨾?◌, or_note, unread, Alts, none_left, ◌∥◌, type_of, members_of, alternatives_of, Letters}
-use Rattle.atn.specs.Reading.{Rec, rec, Ctx, Ans, ok, past, stop, then, times, unless, over, spanned, letters, units, flags, unread_marks, read, read_fields, read_choice}
+use Rattle.atn.specs.Reading.{Rec, rec, Ctx, Ans, ok, then, times, unless, over, spanned, units, flags, unread_marks, read, read_fields, read_choice}
 use Rattle.atn.specs.Told.{tell_any, tell_all, tell, tell_fields, tell_pick}
 use Rattle.x691.proofs.Widths.{width-pow}
-use Rattle.atn.proofs.Steps.{length-size, length-units}
+use Rattle.atn.proofs.Steps.{length-units}
 use Rattle.atn.proofs.Complete.{length-preamble}
 use Rattle.atn.proofs.Inverse.{both, never, never_late, never_marked, never_after, unless_inv, over_inv, Two, then_inv, then_ok, fork_inv, guard_inv, close_inv, soft_inv, lax_inv, fetch_inv, pull_inv, sized_inv, letters_inv, is_one, units-spelt, length_inv}
 

@@ -5,16 +5,16 @@ use mathlib.Core.List.{List, [], ◌∷◌}
 use Prim.Native.Nat.{ℕ, zero, suc, ◌+◌, ◌-◌, ◌*◌, ◌≤◌, ◌<◌}
 use native.Mathlib.Nat.{suc-mul, add_comm}
 use native.Mathlib.Omega.{arith}
-use lib.Dec.{leb, ltb}
+use lib.Dec.{ltb}
 use Rattle.x691.specs.Bits.{uint}
 use Rattle.x691.specs.Types.{extent}
 use Rattle.x691.specs.Encoding.{width, highest}
 use Rattle.atn.specs.Format.{Fmt, num, listed, name, text, span, any_span, skipped, small, null, noted, placed, marked, refuse, element, ext, seq, loose, choice, many, inner, soft, lax}
 use Rattle.atn.specs.Format.{Flds, end, ◌⨾◌, ◌⨾?◌, or_note, unread, Alts, none_left, ◌∥◌, alternatives_of, out}
-use Rattle.atn.specs.Reading.{Rec, rec, word, Ctx, Ans, ok, past, stop, glue, then, times, fork, guard, unless, fetch, pull, sized, letters, units, lettered, short, long, fragment, lengths, length_then, flags, unread_marks, close, softly, laxly, read, read_fields, read_choice}
+use Rattle.atn.specs.Reading.{Rec, rec, word, Ctx, Ans, ok, past, stop, glue, then, times, fork, guard, unless, fetch, pull, sized, letters, lettered, short, long, fragment, lengths, length_then, flags, unread_marks, close, softly, laxly, read, read_fields, read_choice}
 use Rattle.atn.specs.Demands.{Agree}
 use Rattle.atn.proofs.Steps.{fetch_go, fetch_no}
-use Rattle.atn.proofs.Reach.{reach, opens, is_open, split, glue-is, late_is, soft_is, lax_is, close-is, mono_pull, mono_then, mono_times, mono_fork, mono_guard, Rises, mono_sized, mono_letters, mono_short, mono_long, mono_fragment, mono_lengths, mono_length, mono, mono_fields, mono_choice}
+use Rattle.atn.proofs.Reach.{reach, opens, is_open, split, glue-is, late_is, soft_is, lax_is, close_is, mono_pull, mono_then, mono_times, mono_fork, mono_guard, Rises, mono_letters, mono_short, mono_long, mono_fragment, mono_lengths, mono_length, mono, mono_fields, mono_choice}
 use Rattle.atn.proofs.SameBits.{agree_le, same_bits, same_units, same-unread, same}
 
 -- y is what becomes of the answer x when the bits are c's and the window ends at u
@@ -219,10 +219,10 @@ module _ (b c : ℕ → ℕ) where
     rel (many lo hi f) x e u at h =
         rel_sized b c e u at lo hi _ _ (λ k q. mono_times _ (λ i p. mono b f (x.0, i) e p) 1 k q) λ k q l a. rel_times b c e u _ _ (λ i p. mono b f (x.0, i) e p) (λ i p y. rel f (x.0, i) e u p y) 1 k q l
     rel (inner f) x e u at h =
-        rel_length b c e u at _ _ (λ k q. mono_pull b e q k _ λ _. omega (arith, close-is (q + k) (read f x b (q + k) q)))
+        rel_length b c e u at _ _ (λ k q. mono_pull b e q k _ λ _. omega (arith, close_is (q + k) (read f x b (q + k) q)))
         (λ k q l.
-        rel_pull b c e u q k _ _ (λ _. omega (arith, close-is (q + k) (read f x b (q + k) q))) λ _ y a.
-        rel_eq b c e u (ap (close (q + k)) (sym (same b c f x (q + k) q a))) (omega (arith, close-is (q + k) (read f x b (q + k) q)))) h
+        rel_pull b c e u q k _ _ (λ _. omega (arith, close_is (q + k) (read f x b (q + k) q))) λ _ y a.
+        rel_eq b c e u (ap (close (q + k)) (sym (same b c f x (q + k) q a))) (omega (arith, close_is (q + k) (read f x b (q + k) q)))) h
     rel (soft m r f) x e u at h = rel_kept b c e u (softly m r) (λ a. soft_is m r a) (rel f x e u at h)
     rel (lax m j f) x e u at h = rel_kept b c e u (laxly m j) (λ a. lax_is m j a) (rel f x e u at h)
 

@@ -3,20 +3,20 @@ use mathlib.Core.Path.{◌≡◌, refl, sym, ap, ◌∙◌}
 use mathlib.Core.Bool.{Bool, true, false, cond}
 use mathlib.Core.Option.{Option, none, some}
 use mathlib.Core.List.{List, [], ◌∷◌, ◌++◌}
-use Prim.Native.Nat.{ℕ, zero, suc, ◌+◌, ◌-◌, ◌*◌, ◌/◌, ◌%◌, ◌^◌, ◌≤◌, ◌<◌}
-use native.Mathlib.Nat.{add_assoc, add-suc, suc-add, add-zero, suc-mul, add_comm}
+use Prim.Native.Nat.{ℕ, suc, ◌+◌, ◌-◌, ◌*◌, ◌^◌, ◌≤◌, ◌<◌}
+use native.Mathlib.Nat.{add_assoc, add-zero, suc-mul, add_comm}
 use native.Mathlib.Numerals.{add-one, add-two}
 use native.Mathlib.Omega.{arith}
 use lib.ListN.{length, length-append}
-use lib.Dec.{leb, ltb, eqb}
-use borrow.Author.Tests.{ltb-true, ltb-false, eqb-true, eqb-false, le-leb, lt-leb, lt-ltb}
+use lib.Dec.{ltb}
+use borrow.Author.Tests.{ltb-true, ltb-false, le-leb, lt-leb, lt-ltb}
 use Rattle.x691.specs.Bits.{uint, bits_of, Spells}
 use Rattle.x691.specs.Encoding.{width, length_bits, size_bits, unit_bits, joined, if_any, flag}
 use Rattle.x691.specs.Range.{All, IfAny}
 use Rattle.x691.proofs.BitLaws.{uint_back, uint-one, spells_fst, spells_snd, length-bits_of}
 use Rattle.x691.proofs.Widths.{width-holds, unit-fits}
 use Rattle.atn.specs.Format.{out}
-use Rattle.atn.specs.Reading.{Rec, Ans, ok, past, stop, glue, then, times, fork, or, unless, over, fetch, pull, sized, letters, units, short, long, fragment, lengths, length_then}
+use Rattle.atn.specs.Reading.{Rec, Ans, ok, past, stop, glue, then, times, fork, or, unless, over, fetch, pull, sized, letters, units, short, long, lengths, length_then}
 use Rattle.atn.specs.Told.{tell_any, tell_all}
 
 ---------------------------------------------------------------- answers

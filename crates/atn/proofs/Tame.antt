@@ -1,15 +1,12 @@
 -- A property of answers that every way of putting readings together keeps is one of every reading, if the format has no part that breaks it.
 use mathlib.Core.Path.{◌≡◌, refl}
 use mathlib.Core.Bool.{Bool, true, false, ◌&&◌}
-use mathlib.Core.List.{List, [], ◌∷◌}
+use mathlib.Core.List.{List, []}
 use Prim.Native.Nat.{ℕ, zero, suc, ◌+◌, ◌-◌, ◌*◌}
-use native.Mathlib.Omega.{arith}
 use Rattle.x691.specs.Bits.{uint}
-use Rattle.x691.specs.Types.{extent}
-use Rattle.x691.specs.Encoding.{width, highest}
 use Rattle.atn.specs.Format.{Fmt, num, listed, name, text, span, any_span, skipped, small, null, noted, placed, marked, refuse, element, ext, seq, loose, choice, many, inner, soft, lax}
-use Rattle.atn.specs.Format.{Flds, end, ◌⨾◌, ◌⨾?◌, or_note, unread, Alts, none_left, ◌∥◌, alternatives_of, Why, out, bad, lack, quit}
-use Rattle.atn.specs.Reading.{Rec, Ctx, Ans, ok, past, stop, late, then, times, fork, guard, fetch, pull, sized, letters, short, long, fragment, lengths, length_then, flags, unread_marks, within, close, softly, laxly, read, read_fields, read_choice}
+use Rattle.atn.specs.Format.{Flds, end, ◌⨾◌, ◌⨾?◌, or_note, unread, Alts, none_left, ◌∥◌, Why, out, bad, lack, quit}
+use Rattle.atn.specs.Reading.{Rec, Ctx, Ans, ok, stop, late, then, times, fork, guard, fetch, pull, sized, letters, short, long, fragment, lengths, length_then, flags, within, close, softly, laxly, read, read_fields, read_choice}
 use Rattle.atn.proofs.Steps.{fetch_go, fetch_no}
 use Rattle.atn.proofs.Reach.{split}
 use Rattle.atn.proofs.Inverse.{both}

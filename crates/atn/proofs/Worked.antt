@@ -1,9 +1,9 @@
 -- The worked frames that document 01 marks P: the definitions give what it writes (specs/Worked.antt has the table). Behind them, frames for its rules that no theorem about all frames states. That the code's contracts allow nothing else is shown in crates/demands.
 use mathlib.Core.Path.{◌≡◌, refl}
-use mathlib.Core.Bool.{true, false, cond}
+use mathlib.Core.Bool.{cond}
 use mathlib.Core.List.{List, [], ◌∷◌, ◌++◌, map}
-use Prim.Native.Nat.{ℕ, ◌-◌, ◌*◌, ◌/◌, ◌%◌}
-use lib.ListN.{length, get_or, take, replicate}
+use Prim.Native.Nat.{ℕ, ◌-◌, ◌*◌}
+use lib.ListN.{length, get_or, replicate}
 use lib.Dec.{eqb}
 use Rattle.x691.specs.Bits.{bit_of, uint, bits_of}
 use Rattle.x691.specs.Types.{extent}
@@ -11,10 +11,10 @@ use Rattle.x691.specs.Encoding.{width_in, width, count, highest}
 use Rattle.x691.specs.Range.{member}
 use Rattle.atn.specs.Format.{Fmt, num, small, out, lack}
 use Rattle.atn.specs.Format as format
-use Rattle.atn.specs.Reading.{Rec, rec, Ans, ok, stop, mark, or, unless, over, word, octets, packs, pack, coded, spaced, none_above, spanned, glue, tardy, late, then, times, fork, guard, fetch, pull, sized, letters, units, short, long, fragment, lengths, length_then, flags, unread_mark, unread_marks, within, shut, close, kept, pass_over, softly, give_up, laxly, read, read_fields, read_choice}
+use Rattle.atn.specs.Reading.{Rec, rec, Ans, ok, stop, mark, or, unless, over, word, octets, packs, pack, coded, spaced, none_above, spanned, glue, tardy, late, then, times, fork, guard, fetch, pull, sized, letters, units, short, long, fragment, lengths, length_then, flags, unread_mark, unread_marks, within, shut, close, kept, pass_over, softly, give_up, laxly, read}
 use Rattle.atn.specs.Messages.{argument_of, elements, date_time_group, level_type, message_data}
-use Rattle.atn.specs.Entries.{Reply, accept, ran_out, badly, unsupplied, stopped, reply, read_frame, after_out, after_bad, or_else, Answer, accepted, refused, flat, need, settle, decide, enter, frame-fits, table_fits, direction-fits, pdus, cm_of, parse-pdus, parse-apdu, parse-cm, parse-acse-apdu}
-use Rattle.atn.specs.Worked.{Entry, downlink, uplink, apdu, cm-ground, cm-logon, acse-apdu, Question, range, field, count_of, length_of, small-octets, frame, told, records-of, without-words, zeros, Written, bits, records, is, bad, whole, cut, refuses, other, Row, ◌gives◌, written, worked, raw-bytes, raw-place, small_bytes, down, up, lent, enters, only, values_in, of_answer, told_in, counted}
+use Rattle.atn.specs.Entries.{Reply, accept, ran_out, badly, unsupplied, stopped, reply, read_frame, after_out, after_bad, or_else, Answer, accepted, refused, flat, need, settle, decide, enter, frame_fits, table_fits, direction_fits, pdus, cm_of, parse_pdus, parse_apdu, parse_cm, parse_acse_apdu}
+use Rattle.atn.specs.Worked.{Entry, downlink, apdu, cm-logon, acse-apdu, Question, range, field, count_of, length_of, small_octets, frame, told, records_of, without_words, zeros, Written, bits, is, bad, whole, cut, refuses, other, Row, ◌gives◌, written, worked, raw_bytes, raw_place, small_bytes, down, up, lent, enters, only, values_in, of_answer, told_in, counted}
 use Rattle.atn.specs.Tags as tag
 
 ---------------------------------------------------------------- what the definitions say
@@ -61,17 +61,17 @@ unfolding reply stopped read then late glue tardy times fork guard fetch pull si
 read_bits f l = reply (read f (0, 0) (λ i. get_or l i 0) (length l) 0)
 
 unfoldable pub given : Question → Written
-unfolding width extent bit_of only values_in of_answer told_in counted read_bits lent one enters parse-pdus parse-apdu parse-cm parse-acse-apdu pdus cm_of enter decide frame-fits table_fits direction-fits settle need flat or_else after_bad after_out read_frame down up
+unfolding width extent bit_of only values_in of_answer told_in counted read_bits lent one enters parse_pdus parse_apdu parse_cm parse_acse_apdu pdus cm_of enter decide frame_fits table_fits direction_fits settle need flat or_else after_bad after_out read_frame down up
 given (range lo hi) = bits (width (extent lo hi))
-given (field lo hi r) = one (read (num 0 lo hi) (0, 0) (bit_of (raw-bytes r)) 16 (raw-place (width (extent lo hi))))
-given (count_of lo hi r) = one (sized (bit_of (raw-bytes r)) 16 (raw-place (width (hi - lo))) lo hi λ n p. alone n 16 p)
+given (field lo hi r) = one (read (num 0 lo hi) (0, 0) (bit_of (raw_bytes r)) 16 (raw_place (width (extent lo hi))))
+given (count_of lo hi r) = one (sized (bit_of (raw_bytes r)) 16 (raw_place (width (hi - lo))) lo hi λ n p. alone n 16 p)
 given (length_of s) = one (length_then (bit_of s) (length s * 8) 0 λ n p. alone n (length s * 8) p)
-given (small-octets cs) = one (read (small 2 0) (0, 0) (bit_of (small_bytes cs)) (length (small_bytes cs) * 8) 7)
+given (small_octets cs) = one (read (small 2 0) (0, 0) (bit_of (small_bytes cs)) (length (small_bytes cs) * 8) 7)
 given (frame e s) = of_answer (enters e s lent).0
 given (told e t s) = let o = enters e s lent in told_in t o.0 o.1
-given (records-of e s) = counted (enters e s lent).0
-given (without-words e s) = of_answer (enters e s []).0
-given (zeros n a b d) = of_answer (parse-pdus (replicate n 0) d (replicate a 0) (replicate b 0) lent).0
+given (records_of e s) = counted (enters e s lent).0
+given (without_words e s) = of_answer (enters e s []).0
+given (zeros n a b d) = of_answer (parse_pdus (replicate n 0) d (replicate a 0) (replicate b 0) lent).0
 
 abbrev pub defined : Row → Written
 defined (q gives a) = given q
@@ -93,7 +93,7 @@ told-apart =
     -- of the four errors that look right: calling the end of a window "ran out"
     frame downlink shut_in gives refuses 5 14
     -- refusing 7 before a later refusal 5 is known
-    ∷ without-words downlink shut_in gives refuses 5 14
+    ∷ without_words downlink shut_in gives refuses 5 14
     -- `parse_apdu`: after a downlink 4 or 5 the marks are the uplink's alone; 5A is an extended response, and downlink has unread octets; 56 is response 3, and downlink has an extension bit
     ∷ frame apdu (0x5A ∷ []) gives cut 8 2
     ∷ frame apdu (0x56 ∷ []) gives whole 7 1
@@ -119,11 +119,11 @@ in_messages =
     -- a year, before month, day and time; clamping it is one of the four errors that look right
     (number date_time_group tag.year (bits_of 7 127 ++ replicate 26 0), is 2123 1)
     -- the first alternative of a level
-    ∷ (number level_type tag.level-number (0 ∷ 0 ∷ bits_of 13 7061), is 7001 1)
+    ∷ (number level_type tag.level_number (0 ∷ 0 ∷ bits_of 13 7061), is 7001 1)
     -- no clearances, then the count of elements, of a table with one entry: an index has no bits
-    ∷ (amount (message_data (0 ∷ [])) tag.element-index (0 ∷ bits_of 3 7), is 8 1)
+    ∷ (amount (message_data (0 ∷ [])) tag.element_index (0 ∷ bits_of 3 7), is 8 1)
     -- another of the four, stopping after a departure clearance with unread parts: the walk goes on, mark 4. Two elements of a table: the clearance with both parts there and an airport for its position; and NULL
-    ∷ (amount (message_data (16 ∷ 0 ∷ [])) tag.element-index (0 ∷ 0 ∷ 0 ∷ 1 ∷ 0 ∷ 1 ∷ 1 ∷ 0 ∷ 0 ∷ 0 ∷ replicate 14 0 ++ 0 ∷ 1 ∷ 0 ∷ replicate 28 0 ++ 1 ∷ []), is 2 8)
+    ∷ (amount (message_data (16 ∷ 0 ∷ [])) tag.element_index (0 ∷ 0 ∷ 0 ∷ 1 ∷ 0 ∷ 1 ∷ 1 ∷ 0 ∷ 0 ∷ 0 ∷ replicate 14 0 ++ 0 ∷ 1 ∷ 0 ∷ replicate 28 0 ++ 1 ∷ []), is 2 8)
     ∷ []
 
 pub all_in_messages : map (λ (r : Written × Written). r.0) in_messages ≡ map (λ (r : Written × Written). r.1) in_messages
@@ -136,7 +136,7 @@ lacked_in (accepted c p m k) = other
 lacked_in (refused n p k l) = is p l
 
 short-by : Entry → List ℕ → Written
-unfolding width bit_of read_bits lent enters parse-pdus parse-apdu parse-cm parse-acse-apdu pdus cm_of enter decide frame-fits table_fits direction-fits settle need flat or_else after_bad after_out read_frame down up lacked_in
+unfolding width bit_of read_bits lent enters parse_pdus parse_apdu parse_cm parse_acse_apdu pdus cm_of enter decide frame_fits table_fits direction_fits settle need flat or_else after_bad after_out read_frame down up lacked_in
 short-by e s = lacked_in (enters e s lent).0
 
 pub ran_out_lem : List (Written × Written)

@@ -7,7 +7,7 @@ use Rattle.x691.specs.Range.{InRange}
 use Rattle.atn.specs.Format.{Fmt, type_of}
 use Rattle.atn.specs.Reading.{Rec}
 use Rattle.atn.specs.Told.{tell}
-use Rattle.atn.specs.Entries.{Reply, accept, ran_out, badly, unsupplied, accepted, refused, Outcome, flat, need, Test, test, frame-fits}
+use Rattle.atn.specs.Entries.{Reply, accept, ran_out, badly, unsupplied, accepted, refused, Outcome, flat, need, Test, test, frame_fits}
 
 ---------------------------------------------------------------- what the demands speak of
 
@@ -31,7 +31,7 @@ pub record Message (f : Fmt) (s : List ℕ) (p : ℕ) (R : List Rec) : Type 0 wh
 
 -- the frame t, "within the length limit", "shares those p bits" of the frame s, and the words v are "at least as much room" as the words w
 pub record Shares (s t w v : List ℕ) (p : ℕ) : Type 0 where
-  pub limit : frame-fits t ≡ true
+  pub limit : frame_fits t ≡ true
   pub bits : Agree (bit_of s) (bit_of t) p
   pub there : p ≤ length t * 8
   pub room : length w ≤ length v
@@ -79,9 +79,9 @@ pub record Owes (ts : List Test) (F : List ℕ → Reply) (P : List ℕ → List
   -- 1: "A refusal leaves the lent words untouched"
   pub left : (s w : List ℕ) {n p k l : ℕ} {w' : List ℕ} → P s w ≡ (refused n p k l, w') → w' ≡ w
   -- 3: "No room is said exactly when an accepted reading's records do not fit": only then
-  pub no_room : (s w : List ℕ) {p k l : ℕ} {w' : List ℕ} → P s w ≡ (refused 7 p k l, w') → (frame-fits s ≡ true) × (passes ts ≡ true) × NoRoom (F s) w p k w'
+  pub no_room : (s w : List ℕ) {p k l : ℕ} {w' : List ℕ} → P s w ≡ (refused 7 p k l, w') → (frame_fits s ≡ true) × (passes ts ≡ true) × NoRoom (F s) w p k w'
   -- and always then
-  pub no_room⁻ : (s w : List ℕ) (c : Bool) (p m : ℕ) (R : List Rec) → frame-fits s ≡ true → passes ts ≡ true → F s ≡ accept c p m R → length w < need R → P s w ≡ (refused 7 p (need R) 0, w)
+  pub no_room⁻ : (s w : List ℕ) (c : Bool) (p m : ℕ) (R : List Rec) → frame_fits s ≡ true → passes ts ≡ true → F s ≡ accept c p m R → length w < need R → P s w ≡ (refused 7 p (need R) 0, w)
   -- the reach is inside the frame, of an answer and of a refusal
   pub within : (s w : List ℕ) {c : Bool} {p m k : ℕ} {w' : List ℕ} → P s w ≡ (accepted c p m k, w') → p ≤ length s * 8
   pub within⁻ : (s w : List ℕ) {n p k l : ℕ} {w' : List ℕ} → P s w ≡ (refused n p k l, w') → p ≤ length s * 8
@@ -96,4 +96,4 @@ pub record ReadsClean (ts : List Test) (f : Fmt) (P : List ℕ → List ℕ → 
   -- only then, and the records are the message's
   pub sound : (s w : List ℕ) {p k : ℕ} {w' : List ℕ} → P s w ≡ (accepted false p 0 k, w') → (R : List Rec) × Message f s p R × (k ≡ length R) × (w' ≡ flat R ++ drop (need R) w)
   -- always then
-  pub complete : (s w : List ℕ) (p : ℕ) (R : List Rec) → frame-fits s ≡ true → passes ts ≡ true → Message f s p R → need R ≤ length w → P s w ≡ (accepted false p 0 (length R), flat R ++ drop (need R) w)
+  pub complete : (s w : List ℕ) (p : ℕ) (R : List Rec) → frame_fits s ≡ true → passes ts ≡ true → Message f s p R → need R ≤ length w → P s w ≡ (accepted false p 0 (length R), flat R ++ drop (need R) w)

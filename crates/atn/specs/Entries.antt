@@ -1,5 +1,5 @@
 -- The four entries: the complete answer, and what the lent words hold afterwards, as functions of frame, tables, direction and words.
-use Rattle.std.specs.Prelude.{Bool, true, false, cond, ◌&&◌, List, [], ◌∷◌, ◌++◌, ℕ, zero, suc, ◌+◌, ◌*◌, max, min, length, drop, leb, eqb}
+use Rattle.std.specs.Prelude.{Bool, true, false, cond, ◌&&◌, List, [], ◌∷◌, ◌++◌, ℕ, zero, suc, ◌+◌, ◌*◌, max, min, length, drop, leb}
 use Rattle.x691.specs.Bits.{bit_of}
 use Rattle.atn.specs.Format.{Fmt, Why, out, bad, lack, quit}
 use Rattle.atn.specs.Reading.{Rec, rec, Ans, ok, past, stop, or, mark, read}
@@ -76,14 +76,14 @@ settle (unsupplied p) w = (refused 6 p 0 0, w)
 
 ---------------------------------------------------------------- what is tested before anything is read
 
-unfoldable pub frame-fits : List ℕ → Bool
-frame-fits s = leb (length s) 65536
+unfoldable pub frame_fits : List ℕ → Bool
+frame_fits s = leb (length s) 65536
 
 unfoldable pub table_fits : List ℕ → Bool
 table_fits t = leb 1 (length t) && leb (length t) 256
 
-unfoldable pub direction-fits : ℕ → Bool
-direction-fits d = leb d 1
+unfoldable pub direction_fits : ℕ → Bool
+direction_fits d = leb d 1
 
 -- a test, and the refusal where it fails
 pub data Test : Type 0 where
@@ -97,7 +97,7 @@ decide (test false n ∷ ts) r w = (refused n 0 0 0, w)
 
 -- every entry first asks for the frame's length, then for what else it is given
 unfoldable pub enter : List Test → (List ℕ → Reply) → List ℕ → List ℕ → Outcome
-enter ts read s w = decide (test (frame-fits s) 1 ∷ ts) (read s) w
+enter ts read s w = decide (test (frame_fits s) 1 ∷ ts) (read s) w
 
 ---------------------------------------------------------------- the entries: frame, direction, down table, up table, words
 
@@ -108,16 +108,16 @@ pdus (suc d) down up = ground_pdus down up
 
 -- what the two CPDLC entries test, behind the frame's length
 abbrev pub pdus_tests : ℕ → List ℕ → List ℕ → List Test
-pdus_tests d down up = test (table_fits down && table_fits up) 2 ∷ test (direction-fits d) 3 ∷ []
+pdus_tests d down up = test (table_fits down && table_fits up) 2 ∷ test (direction_fits d) 3 ∷ []
 
 abbrev pub apdu_tests : List ℕ → List ℕ → List Test
 apdu_tests down up = test (table_fits down && table_fits up) 2 ∷ []
 
-unfoldable pub parse-pdus : List ℕ → ℕ → List ℕ → List ℕ → List ℕ → Outcome
-parse-pdus s d down up w = enter (pdus_tests d down up) (λ f. read_frame (pdus d down up) f) s w
+unfoldable pub parse_pdus : List ℕ → ℕ → List ℕ → List ℕ → List ℕ → Outcome
+parse_pdus s d down up w = enter (pdus_tests d down up) (λ f. read_frame (pdus d down up) f) s w
 
-unfoldable pub parse-apdu : List ℕ → List ℕ → List ℕ → List ℕ → Outcome
-parse-apdu s down up w = enter (apdu_tests down up) (λ f. or_else (read_frame (aircraft_pdus down) f) (read_frame (ground_pdus down up) f)) s w
+unfoldable pub parse_apdu : List ℕ → List ℕ → List ℕ → List ℕ → Outcome
+parse_apdu s down up w = enter (apdu_tests down up) (λ f. or_else (read_frame (aircraft_pdus down) f) (read_frame (ground_pdus down up) f)) s w
 
 -- Context Management: direction 0 is the aircraft's message, 1 the ground's
 unfoldable pub cm_of : ℕ → Fmt
@@ -125,10 +125,10 @@ cm_of zero = cm_aircraft
 cm_of (suc d) = cm_ground
 
 abbrev pub cm_tests : ℕ → List Test
-cm_tests d = test (direction-fits d) 3 ∷ []
+cm_tests d = test (direction_fits d) 3 ∷ []
 
-unfoldable pub parse-cm : List ℕ → ℕ → List ℕ → Outcome
-parse-cm s d w = enter (cm_tests d) (λ f. read_frame (cm_of d) f) s w
+unfoldable pub parse_cm : List ℕ → ℕ → List ℕ → Outcome
+parse_cm s d w = enter (cm_tests d) (λ f. read_frame (cm_of d) f) s w
 
-unfoldable pub parse-acse-apdu : List ℕ → List ℕ → Outcome
-parse-acse-apdu s w = enter [] (λ f. read_frame acse f) s w
+unfoldable pub parse_acse_apdu : List ℕ → List ℕ → Outcome
+parse_acse_apdu s w = enter [] (λ f. read_frame acse f) s w

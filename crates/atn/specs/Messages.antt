@@ -1,7 +1,7 @@
 -- The messages of document 01 as formats: the schema's types with the tags of their records and with what the source tolerates.
 use Rattle.std.specs.Prelude.{true, false, List, [], ◌∷◌, ℕ, get_or}
 use Rattle.atn.specs.Format.{Fmt, num, listed, name, text, span, any_span, skipped, small, null, noted, placed, marked, refuse, element, ext, seq, loose, choice, many, inner, soft, lax}
-use Rattle.atn.specs.Format.{Flds, end, ◌⨾◌, ◌⨾?◌, or_note, unread, Alts, none_left, ◌∥◌, first, numeric, bad, lack}
+use Rattle.atn.specs.Format.{end, ◌⨾◌, ◌⨾?◌, or_note, unread, Alts, none_left, ◌∥◌, first, numeric, bad, lack}
 use Rattle.atn.specs.Reading.{mark}
 use Rattle.atn.specs.Schema.{minus}
 use Rattle.atn.specs.Tags as tag
@@ -49,22 +49,22 @@ abbrev pub latitude : Fmt
 latitude =
     seq
     (choice tag.latitude
-    (num tag.latitude-thousandths 0 90000
-    ∥ seq (num tag.latitude-degrees 0 89 ⨾ num tag.latitude-hundredths 0 5999 ⨾ end)
-    ∥ seq (num tag.latitude-degrees 0 89 ⨾ num tag.latitude-minutes 0 59 ⨾ num tag.latitude-seconds 0 59 ⨾ end)
+    (num tag.latitude_thousandths 0 90000
+    ∥ seq (num tag.latitude_degrees 0 89 ⨾ num tag.latitude_hundredths 0 5999 ⨾ end)
+    ∥ seq (num tag.latitude_degrees 0 89 ⨾ num tag.latitude_minutes 0 59 ⨾ num tag.latitude_seconds 0 59 ⨾ end)
     ∥ none_left)
-    ⨾ num tag.latitude-side 0 1
+    ⨾ num tag.latitude_side 0 1
     ⨾ end)
 
 abbrev pub longitude : Fmt
 longitude =
     seq
     (choice tag.longitude
-    (num tag.longitude-thousandths 0 180000
-    ∥ seq (num tag.longitude-degrees 0 179 ⨾ num tag.longitude-hundredths 0 5999 ⨾ end)
-    ∥ seq (num tag.longitude-degrees 0 179 ⨾ num tag.longitude-minutes 0 59 ⨾ num tag.longitude-seconds 0 59 ⨾ end)
+    (num tag.longitude_thousandths 0 180000
+    ∥ seq (num tag.longitude_degrees 0 179 ⨾ num tag.longitude_hundredths 0 5999 ⨾ end)
+    ∥ seq (num tag.longitude_degrees 0 179 ⨾ num tag.longitude_minutes 0 59 ⨾ num tag.longitude_seconds 0 59 ⨾ end)
     ∥ none_left)
-    ⨾ num tag.longitude-side 0 1
+    ⨾ num tag.longitude_side 0 1
     ⨾ end)
 
 abbrev pub latlon : Fmt
@@ -77,36 +77,36 @@ abbrev pub position : Fmt
 position = choice tag.position (named tag.fix 5 ∥ named tag.navaid 4 ∥ ia5 tag.airport 4 4 ∥ latlon ∥ unlisted ∥ none_left)
 
 abbrev pub published : Fmt
-published = choice tag.published (named tag.published-fix 5 ∥ named tag.published-navaid 4 ∥ none_left)
+published = choice tag.published (named tag.published_fix 5 ∥ named tag.published_navaid 4 ∥ none_left)
 
 ---------------------------------------------------------------- the arguments of elements
 
 abbrev pub degrees : Fmt
-degrees = choice tag.degrees (num tag.degrees-number 1 360 ∥ num tag.degrees-number 1 360 ∥ none_left)
+degrees = choice tag.degrees (num tag.degrees_number 1 360 ∥ num tag.degrees_number 1 360 ∥ none_left)
 
 abbrev pub speed : Fmt
 speed =
     choice tag.speed
-    (num tag.speed-number 0 400
-    ∥ num tag.speed-number 0 800
-    ∥ num tag.speed-number 0 2000
-    ∥ num tag.speed-number 0 4000
-    ∥ num tag.speed-number (minus 50) 2000
-    ∥ num tag.speed-number (minus 100) 4000
-    ∥ num tag.speed-number 500 4000
+    (num tag.speed_number 0 400
+    ∥ num tag.speed_number 0 800
+    ∥ num tag.speed_number 0 2000
+    ∥ num tag.speed_number 0 4000
+    ∥ num tag.speed_number (minus 50) 2000
+    ∥ num tag.speed_number (minus 100) 4000
+    ∥ num tag.speed_number 500 4000
     ∥ none_left)
 
 abbrev pub speed_type : Fmt
-speed_type = ext_name tag.speed-type 8
+speed_type = ext_name tag.speed_type 8
 
 abbrev pub level_type : Fmt
-level_type = choice tag.level (num tag.level-number (minus 60) 7000 ∥ num tag.level-number (minus 30) 25000 ∥ num tag.level-number 30 700 ∥ num tag.level-number 100 2500 ∥ none_left)
+level_type = choice tag.level (num tag.level_number (minus 60) 7000 ∥ num tag.level_number (minus 30) 25000 ∥ num tag.level_number 30 700 ∥ num tag.level_number 100 2500 ∥ none_left)
 
 abbrev pub frequency : Fmt
-frequency = choice tag.frequency (num tag.frequency-number 2850 28000 ∥ num tag.frequency-number 23600 27398 ∥ num tag.frequency-number 9000 15999 ∥ numeric_string tag.satellite_channel tag.satellite_channel_x691 12 12 ∥ none_left)
+frequency = choice tag.frequency (num tag.frequency_number 2850 28000 ∥ num tag.frequency_number 23600 27398 ∥ num tag.frequency_number 9000 15999 ∥ numeric_string tag.satellite_channel tag.satellite_channel_x691 12 12 ∥ none_left)
 
 abbrev pub code : Fmt
-code = many 4 4 (num tag.code-digit 0 7)
+code = many 4 4 (num tag.code_digit 0 7)
 
 -- tags of the kind, the name and the transition
 abbrev pub procedure : ℕ → ℕ → ℕ → Fmt
@@ -132,10 +132,10 @@ arguments =
     ∷ code
     ∷ ext_name tag.traffic_type 5
     ∷ ext_name tag.clearance_type 11
-    ∷ ext_name tag.error-information 4
+    ∷ ext_name tag.error_information 4
     ∷ ext_name tag.facility_function 8
-    ∷ procedure tag.procedure tag.procedure-name tag.procedure-transition
-    ∷ runway tag.runway tag.runway-side
+    ∷ procedure tag.procedure tag.procedure_name tag.procedure_transition
+    ∷ runway tag.runway tag.runway_side
     ∷ latlon
     ∷ departure_clearance
     ∷ []
@@ -158,7 +158,7 @@ elements (k ∷ table) = argument_of k ∥ elements table
 abbrev pub leg : Fmt
 leg =
     placed tag.leg
-    (choice tag.route-information
+    (choice tag.route_information
     (published
     ∥ latlon
     ∥ many 2 2 (seq (published ⨾ degrees ⨾ end))
@@ -171,13 +171,13 @@ abbrev pub route_clearance : Fmt
 route_clearance =
     placed tag.clearance
     (loose
-    (ia5 tag.departure-airport 4 4
+    (ia5 tag.departure_airport 4 4
     ⨾? ia5 tag.destination_airport 4 4
-    ⨾? runway tag.departure-runway tag.departure-runway-side
-    ⨾? procedure tag.departure-procedure tag.departure-procedure-name tag.departure-procedure-transition
-    ⨾? runway tag.arrival_runway tag.arrival_runway-side
-    ⨾? procedure tag.approach_procedure tag.approach_procedure-name tag.approach_procedure-transition
-    ⨾? procedure tag.arrival_procedure tag.arrival_procedure-name tag.arrival_procedure-transition
+    ⨾? runway tag.departure_runway tag.departure_runway_side
+    ⨾? procedure tag.departure_procedure tag.departure_procedure_name tag.departure_procedure_transition
+    ⨾? runway tag.arrival_runway tag.arrival_runway_side
+    ⨾? procedure tag.approach_procedure tag.approach_procedure_name tag.approach_procedure_transition
+    ⨾? procedure tag.arrival_procedure tag.arrival_procedure_name tag.arrival_procedure_transition
     ⨾? many 1 128 leg
     ⨾? unread tag.additional end))
 
@@ -188,7 +188,7 @@ abbrev pub constrained_data : Fmt
 constrained_data = lax 7 true (ext (seq (many 1 2 (lax 7 true route_clearance) ⨾? end)) null)
 
 abbrev pub message_data : List ℕ → Fmt
-message_data table = seq (many 1 5 (element (choice tag.element-index (elements table))) ⨾ constrained_data ⨾? end)
+message_data table = seq (many 1 5 (element (choice tag.element_index (elements table))) ⨾ constrained_data ⨾? end)
 
 -- a default acknowledgment is 1
 abbrev pub atc_message : List ℕ → Fmt
@@ -196,18 +196,18 @@ atc_message table = seq (num tag.msg_id 0 63 ⨾ num tag.msg_ref 0 63 ⨾? date_
 
 -- "extension bit (set: 5), two presence bits, optional octets, optional inner message, integrity bits"
 abbrev pub protected_message : List ℕ → Fmt
-protected_message table = ext (seq (skipped 4 ⨾? or_note tag.empty 1 0 (inner (atc_message table)) (soft 7 false (any_span tag.integrity-check 1) ⨾ end))) no_reader
+protected_message table = ext (seq (skipped 4 ⨾? or_note tag.empty 1 0 (inner (atc_message table)) (soft 7 false (any_span tag.integrity_check 1) ⨾ end))) no_reader
 
 abbrev pub extension_alternative : Fmt
-extension_alternative = noted tag.pdu 0 1 (small 2 tag.extension-index)
+extension_alternative = noted tag.pdu 0 1 (small 2 tag.extension_index)
 
 abbrev pub aircraft_pdus : List ℕ → Fmt
 aircraft_pdus down =
     noted tag.direction 0 0
     (ext
     (choice tag.pdu
-    (ext_reason tag.user_abort-reason 12
-    ∥ ext_reason tag.provider_abort-reason 7
+    (ext_reason tag.user_abort_reason 12
+    ∥ ext_reason tag.provider_abort_reason 7
     ∥ seq (num tag.mode 0 1 ⨾? protected_message down ⨾ end)
     ∥ protected_message down
     ∥ none_left))
@@ -222,7 +222,7 @@ forward down up =
     soft 7 false
     (seq
     (seq (date_time_group ⨾ ia5 tag.aircraft_id 2 8 ⨾ span tag.aircraft_address 1 24 24 ⨾ end)
-    ⨾ choice tag.carried-direction (carried up ∥ carried down ∥ none_left)
+    ⨾ choice tag.carried_direction (carried up ∥ carried down ∥ none_left)
     ⨾ end))
 
 abbrev pub ground_pdus : List ℕ → List ℕ → Fmt
@@ -230,8 +230,8 @@ ground_pdus down up =
     noted tag.direction 1 0
     (ext
     (choice tag.pdu
-    (ext_reason tag.user_abort-reason 12
-    ∥ ext_reason tag.provider_abort-reason 7
+    (ext_reason tag.user_abort_reason 12
+    ∥ ext_reason tag.provider_abort_reason 7
     ∥ protected_message up
     ∥ protected_message up
     ∥ forward down up
@@ -255,7 +255,7 @@ abbrev pub addressed : ℕ → Fmt
 addressed t = many 1 256 (placed t (seq (num tag.ae_qualifier 0 255 ⨾ num tag.ap_version 1 255 ⨾ unsupplied ⨾ end)))
 
 abbrev pub etd : Fmt
-etd = seq (seq (num tag.etd-year 1996 2095 ⨾ num tag.etd-month 1 12 ⨾ num tag.etd-day 1 31 ⨾ end) ⨾ seq (num tag.etd-hours 0 23 ⨾ num tag.etd-minutes 0 59 ⨾ end) ⨾ end)
+etd = seq (seq (num tag.etd_year 1996 2095 ⨾ num tag.etd_month 1 12 ⨾ num tag.etd_day 1 31 ⨾ end) ⨾ seq (num tag.etd_hours 0 23 ⨾ num tag.etd_minutes 0 59 ⨾ end) ⨾ end)
 
 abbrev pub cm_logon_request : Fmt
 cm_logon_request =
@@ -265,7 +265,7 @@ cm_logon_request =
     ⨾ addressed tag.ground_initiated
     ⨾? applications tag.air_only_initiated
     ⨾? unsupplied
-    ⨾? ia5 tag.airport-departure 4 4
+    ⨾? ia5 tag.airport_departure 4 4
     ⨾? ia5 tag.airport_destination 4 4
     ⨾? etd
     ⨾? end)
@@ -274,11 +274,11 @@ abbrev pub cm_logon_response : Fmt
 cm_logon_response = seq (addressed tag.air_initiated ⨾? applications tag.ground_only_initiated ⨾? end)
 
 abbrev pub cm_abort : Fmt
-cm_abort = ext_reason tag.cm-abort-reason 9
+cm_abort = ext_reason tag.cm_abort_reason 9
 
 -- "CM refuses a set choice extension with 5"; the third alternative, the contact request, begins with the facility designation, which is not supplied
 abbrev pub cm_ground : Fmt
-cm_ground = ext (choice tag.cm_ground_pdu (cm_logon_response ∥ cm_logon_response ∥ unsupplied ∥ cm_logon_request ∥ cm_abort ∥ num tag.cm-forward_response 0 2 ∥ none_left)) no_reader
+cm_ground = ext (choice tag.cm_ground_pdu (cm_logon_response ∥ cm_logon_response ∥ unsupplied ∥ cm_logon_request ∥ cm_abort ∥ num tag.cm_forward_response 0 2 ∥ none_left)) no_reader
 
 abbrev pub cm_aircraft : Fmt
 cm_aircraft = ext (choice tag.cm_aircraft_pdu (cm_logon_request ∥ num tag.contact_response 0 1 ∥ cm_abort ∥ none_left)) no_reader
@@ -296,4 +296,4 @@ abbrev pub abort : Fmt
 abort = ending (ext (seq (ext_reason tag.abort_source 1 ⨾ ext_reason tag.abort_diagnostic 5 ⨾? end)) null)
 
 abbrev pub acse : Fmt
-acse = ext (choice tag.acse-pdu (marked 3 ∥ marked 3 ∥ release tag.release_request_reason ∥ release tag.release_response_reason ∥ abort ∥ none_left)) (extended tag.acse-pdu)
+acse = ext (choice tag.acse_pdu (marked 3 ∥ marked 3 ∥ release tag.release_request_reason ∥ release tag.release_response_reason ∥ abort ∥ none_left)) (extended tag.acse_pdu)

@@ -7,14 +7,14 @@ direction = 1
 abbrev pub pdu : ℕ
 pdu = 2
 
-abbrev pub extension-index : ℕ
-extension-index = 3
+abbrev pub extension_index : ℕ
+extension_index = 3
 
-abbrev pub user_abort-reason : ℕ
-user_abort-reason = 4
+abbrev pub user_abort_reason : ℕ
+user_abort_reason = 4
 
-abbrev pub provider_abort-reason : ℕ
-provider_abort-reason = 5
+abbrev pub provider_abort_reason : ℕ
+provider_abort_reason = 5
 
 abbrev pub forward_response : ℕ
 forward_response = 6
@@ -52,8 +52,8 @@ seconds = 16
 abbrev pub logical_ack : ℕ
 logical_ack = 17
 
-abbrev pub integrity-check : ℕ
-integrity-check = 18
+abbrev pub integrity_check : ℕ
+integrity_check = 18
 
 abbrev pub aircraft_id : ℕ
 aircraft_id = 19
@@ -61,11 +61,11 @@ aircraft_id = 19
 abbrev pub aircraft_address : ℕ
 aircraft_address = 20
 
-abbrev pub carried-direction : ℕ
-carried-direction = 21
+abbrev pub carried_direction : ℕ
+carried_direction = 21
 
-abbrev pub element-index : ℕ
-element-index = 22
+abbrev pub element_index : ℕ
+element_index = 22
 
 abbrev pub position : ℕ
 position = 30
@@ -85,77 +85,77 @@ coordinates = 34
 abbrev pub latitude : ℕ
 latitude = 35
 
-abbrev pub latitude-thousandths : ℕ
-latitude-thousandths = 36
+abbrev pub latitude_thousandths : ℕ
+latitude_thousandths = 36
 
-abbrev pub latitude-degrees : ℕ
-latitude-degrees = 37
+abbrev pub latitude_degrees : ℕ
+latitude_degrees = 37
 
-abbrev pub latitude-hundredths : ℕ
-latitude-hundredths = 38
+abbrev pub latitude_hundredths : ℕ
+latitude_hundredths = 38
 
-abbrev pub latitude-minutes : ℕ
-latitude-minutes = 39
+abbrev pub latitude_minutes : ℕ
+latitude_minutes = 39
 
-abbrev pub latitude-seconds : ℕ
-latitude-seconds = 40
+abbrev pub latitude_seconds : ℕ
+latitude_seconds = 40
 
-abbrev pub latitude-side : ℕ
-latitude-side = 41
+abbrev pub latitude_side : ℕ
+latitude_side = 41
 
 abbrev pub longitude : ℕ
 longitude = 42
 
-abbrev pub longitude-thousandths : ℕ
-longitude-thousandths = 43
+abbrev pub longitude_thousandths : ℕ
+longitude_thousandths = 43
 
-abbrev pub longitude-degrees : ℕ
-longitude-degrees = 44
+abbrev pub longitude_degrees : ℕ
+longitude_degrees = 44
 
-abbrev pub longitude-hundredths : ℕ
-longitude-hundredths = 45
+abbrev pub longitude_hundredths : ℕ
+longitude_hundredths = 45
 
-abbrev pub longitude-minutes : ℕ
-longitude-minutes = 46
+abbrev pub longitude_minutes : ℕ
+longitude_minutes = 46
 
-abbrev pub longitude-seconds : ℕ
-longitude-seconds = 47
+abbrev pub longitude_seconds : ℕ
+longitude_seconds = 47
 
-abbrev pub longitude-side : ℕ
-longitude-side = 48
+abbrev pub longitude_side : ℕ
+longitude_side = 48
 
 abbrev pub speed : ℕ
 speed = 50
 
-abbrev pub speed-number : ℕ
-speed-number = 51
+abbrev pub speed_number : ℕ
+speed_number = 51
 
-abbrev pub speed-type : ℕ
-speed-type = 52
+abbrev pub speed_type : ℕ
+speed_type = 52
 
 abbrev pub level : ℕ
 level = 53
 
-abbrev pub level-number : ℕ
-level-number = 54
+abbrev pub level_number : ℕ
+level_number = 54
 
 abbrev pub degrees : ℕ
 degrees = 55
 
-abbrev pub degrees-number : ℕ
-degrees-number = 56
+abbrev pub degrees_number : ℕ
+degrees_number = 56
 
 abbrev pub frequency : ℕ
 frequency = 57
 
-abbrev pub frequency-number : ℕ
-frequency-number = 58
+abbrev pub frequency_number : ℕ
+frequency_number = 58
 
 abbrev pub satellite_channel : ℕ
 satellite_channel = 59
 
-abbrev pub code-digit : ℕ
-code-digit = 60
+abbrev pub code_digit : ℕ
+code_digit = 60
 
 abbrev pub traffic_type : ℕ
 traffic_type = 61
@@ -163,8 +163,8 @@ traffic_type = 61
 abbrev pub clearance_type : ℕ
 clearance_type = 62
 
-abbrev pub error-information : ℕ
-error-information = 63
+abbrev pub error_information : ℕ
+error_information = 63
 
 abbrev pub facility_function : ℕ
 facility_function = 64
@@ -172,17 +172,17 @@ facility_function = 64
 abbrev pub procedure : ℕ
 procedure = 65
 
-abbrev pub procedure-name : ℕ
-procedure-name = 66
+abbrev pub procedure_name : ℕ
+procedure_name = 66
 
-abbrev pub procedure-transition : ℕ
-procedure-transition = 67
+abbrev pub procedure_transition : ℕ
+procedure_transition = 67
 
 abbrev pub runway : ℕ
 runway = 68
 
-abbrev pub runway-side : ℕ
-runway-side = 69
+abbrev pub runway_side : ℕ
+runway_side = 69
 
 abbrev pub flight_identification : ℕ
 flight_identification = 70
@@ -199,65 +199,65 @@ satellite_channel_x691 = 73
 abbrev pub clearance : ℕ
 clearance = 80
 
-abbrev pub departure-airport : ℕ
-departure-airport = 81
+abbrev pub departure_airport : ℕ
+departure_airport = 81
 
 abbrev pub destination_airport : ℕ
 destination_airport = 82
 
-abbrev pub departure-runway : ℕ
-departure-runway = 83
+abbrev pub departure_runway : ℕ
+departure_runway = 83
 
-abbrev pub departure-runway-side : ℕ
-departure-runway-side = 84
+abbrev pub departure_runway_side : ℕ
+departure_runway_side = 84
 
-abbrev pub departure-procedure : ℕ
-departure-procedure = 85
+abbrev pub departure_procedure : ℕ
+departure_procedure = 85
 
-abbrev pub departure-procedure-name : ℕ
-departure-procedure-name = 86
+abbrev pub departure_procedure_name : ℕ
+departure_procedure_name = 86
 
-abbrev pub departure-procedure-transition : ℕ
-departure-procedure-transition = 87
+abbrev pub departure_procedure_transition : ℕ
+departure_procedure_transition = 87
 
 abbrev pub arrival_runway : ℕ
 arrival_runway = 88
 
-abbrev pub arrival_runway-side : ℕ
-arrival_runway-side = 89
+abbrev pub arrival_runway_side : ℕ
+arrival_runway_side = 89
 
 abbrev pub approach_procedure : ℕ
 approach_procedure = 90
 
-abbrev pub approach_procedure-name : ℕ
-approach_procedure-name = 91
+abbrev pub approach_procedure_name : ℕ
+approach_procedure_name = 91
 
-abbrev pub approach_procedure-transition : ℕ
-approach_procedure-transition = 92
+abbrev pub approach_procedure_transition : ℕ
+approach_procedure_transition = 92
 
 abbrev pub arrival_procedure : ℕ
 arrival_procedure = 93
 
-abbrev pub arrival_procedure-name : ℕ
-arrival_procedure-name = 94
+abbrev pub arrival_procedure_name : ℕ
+arrival_procedure_name = 94
 
-abbrev pub arrival_procedure-transition : ℕ
-arrival_procedure-transition = 95
+abbrev pub arrival_procedure_transition : ℕ
+arrival_procedure_transition = 95
 
 abbrev pub leg : ℕ
 leg = 96
 
-abbrev pub route-information : ℕ
-route-information = 97
+abbrev pub route_information : ℕ
+route_information = 97
 
 abbrev pub published : ℕ
 published = 98
 
-abbrev pub published-fix : ℕ
-published-fix = 99
+abbrev pub published_fix : ℕ
+published_fix = 99
 
-abbrev pub published-navaid : ℕ
-published-navaid = 100
+abbrev pub published_navaid : ℕ
+published_navaid = 100
 
 abbrev pub route_designator : ℕ
 route_designator = 101
@@ -271,11 +271,11 @@ cm_ground_pdu = 110
 abbrev pub cm_aircraft_pdu : ℕ
 cm_aircraft_pdu = 111
 
-abbrev pub cm-abort-reason : ℕ
-cm-abort-reason = 112
+abbrev pub cm_abort_reason : ℕ
+cm_abort_reason = 112
 
-abbrev pub cm-forward_response : ℕ
-cm-forward_response = 113
+abbrev pub cm_forward_response : ℕ
+cm_forward_response = 113
 
 abbrev pub contact_response : ℕ
 contact_response = 114
@@ -310,29 +310,29 @@ ae_qualifier = 123
 abbrev pub ap_version : ℕ
 ap_version = 124
 
-abbrev pub airport-departure : ℕ
-airport-departure = 125
+abbrev pub airport_departure : ℕ
+airport_departure = 125
 
 abbrev pub airport_destination : ℕ
 airport_destination = 126
 
-abbrev pub etd-year : ℕ
-etd-year = 127
+abbrev pub etd_year : ℕ
+etd_year = 127
 
-abbrev pub etd-month : ℕ
-etd-month = 128
+abbrev pub etd_month : ℕ
+etd_month = 128
 
-abbrev pub etd-day : ℕ
-etd-day = 129
+abbrev pub etd_day : ℕ
+etd_day = 129
 
-abbrev pub etd-hours : ℕ
-etd-hours = 130
+abbrev pub etd_hours : ℕ
+etd_hours = 130
 
-abbrev pub etd-minutes : ℕ
-etd-minutes = 131
+abbrev pub etd_minutes : ℕ
+etd_minutes = 131
 
-abbrev pub acse-pdu : ℕ
-acse-pdu = 140
+abbrev pub acse_pdu : ℕ
+acse_pdu = 140
 
 abbrev pub release_request_reason : ℕ
 release_request_reason = 141

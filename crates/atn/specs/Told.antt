@@ -2,8 +2,8 @@
 use Rattle.std.proofs.Math.Option.{Option, none, some}
 use Rattle.std.proofs.Common.{inl, inr}
 use Rattle.std.specs.Prelude.{List, [], ◌∷◌, ◌++◌, ℕ, suc, ◌+◌, ◌-◌, ◌*◌, length}
-use Rattle.x691.specs.Types.{Value, Values, Pick, extent}
-use Rattle.x691.specs.Encoding.{width, highest, length_bits, size_bits, encode, encode_members, encode_pick, index, if_any}
+use Rattle.x691.specs.Types.{Value, Values, Pick}
+use Rattle.x691.specs.Encoding.{width, highest, length_bits, encode, index, if_any}
 use Rattle.atn.specs.Format.{Fmt, num, listed, name, text, span, any_span, skipped, small, null, noted, placed, marked, refuse, element, ext, seq, loose, choice, many, inner, soft, lax}
 use Rattle.atn.specs.Format.{Flds, end, ◌⨾◌, ◌⨾?◌, or_note, unread, Alts, none_left, ◌∥◌, type_of, members_of, alternatives_of}
 use Rattle.atn.specs.Reading.{Rec, rec, Ctx, word, lettered, spanned, flags}

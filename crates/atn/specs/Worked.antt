@@ -1,7 +1,7 @@
 -- The worked frames that document 01 marks P, in one table: what is asked, and what it writes.
 use Rattle.std.specs.Prelude.{true, false, cond, List, [], ◌∷◌, ◌++◌, ℕ, ◌-◌, ◌/◌, ◌%◌, length, take, replicate, eqb}
 use Rattle.atn.specs.Schema.{minus}
-use Rattle.atn.specs.Entries.{Answer, accepted, refused, Outcome, parse-pdus, parse-apdu, parse-cm, parse-acse-apdu}
+use Rattle.atn.specs.Entries.{Answer, accepted, refused, Outcome, parse_pdus, parse_apdu, parse_cm, parse_acse_apdu}
 use Rattle.atn.specs.Tags as tag
 
 pub data Entry : Type 0 where
@@ -18,15 +18,15 @@ pub data Question : Type 0 where
   -- the length that these bytes spell, and the marks
   length_of : List ℕ → Question
   -- the normally small number in so many octets behind a set choice extension, which is mark 2, and the marks
-  small-octets : List ℕ → Question
+  small_octets : List ℕ → Question
   -- what an entry says of a frame
   frame : Entry → List ℕ → Question
   -- the numbers with a tag in the words that an entry filled, and the marks
   told : Entry → ℕ → List ℕ → Question
   -- how many records an entry says that there are
-  records-of : Entry → List ℕ → Question
+  records_of : Entry → List ℕ → Question
   -- what an entry says of a frame where it is lent no words
-  without-words : Entry → List ℕ → Question
+  without_words : Entry → List ℕ → Question
   -- what `parse_pdus` says of so many bytes 00, with so many entries in the tables, and a direction
   zeros : ℕ → ℕ → ℕ → ℕ → Question
 
@@ -81,7 +81,7 @@ worked =
     ∷ length_of (0xC5 ∷ []) gives bad
     ∷ length_of (0xC1 ∷ 0x00 ∷ []) gives is 16384 16
     -- nine normally small octets 01, seven of 00, 07 give 7
-    ∷ small-octets (0x01 ∷ replicate 7 0x00 ++ 0x07 ∷ []) gives is 7 2
+    ∷ small_octets (0x01 ∷ replicate 7 0x00 ++ 0x07 ∷ []) gives is 7 2
     -- empty frame, every entry: 4, reach 0
     ∷ frame downlink [] gives refuses 4 0
     ∷ frame uplink [] gives refuses 4 0
@@ -95,26 +95,26 @@ worked =
     ∷ frame acse-apdu (0x50 ∷ []) gives refuses 5 4
     -- CM logon 40: abort reason 0, reach 8, clean; 4A: reason 10, mark 1
     ∷ frame cm-logon (0x40 ∷ []) gives whole 8 0
-    ∷ told cm-logon tag.cm-abort-reason (0x40 ∷ []) gives is 0 0
-    ∷ told cm-logon tag.cm-abort-reason (0x4A ∷ []) gives is 10 1
+    ∷ told cm-logon tag.cm_abort_reason (0x40 ∷ []) gives is 0 0
+    ∷ told cm-logon tag.cm_abort_reason (0x4A ∷ []) gives is 10 1
     -- 52 read uplink: whole, reach 7; by `parse_apdu`: cut, reach 8
     ∷ frame uplink (0x52 ∷ []) gives whole 7 0
     ∷ frame apdu (0x52 ∷ []) gives cut 8 0
     -- the WILCO frame: reach 74, clean; its first nine bytes: cut, reach 67
     ∷ frame apdu wilco gives whole 74 0
-    ∷ records-of apdu wilco gives records 11
+    ∷ records_of apdu wilco gives records 11
     ∷ frame apdu (take 9 wilco) gives cut 67 0
-    ∷ records-of apdu (take 9 wilco) gives records 11
+    ∷ records_of apdu (take 9 wilco) gives records 11
     ∷ []
 
 ---------------------------------------------------------------- how a question is put
 
 -- a raw number at the end of two bytes, and the place of its n bits
-abbrev pub raw-bytes : ℕ → List ℕ
-raw-bytes r = r / 256 ∷ r % 256 ∷ []
+abbrev pub raw_bytes : ℕ → List ℕ
+raw_bytes r = r / 256 ∷ r % 256 ∷ []
 
-abbrev pub raw-place : ℕ → ℕ
-raw-place n = 16 - n
+abbrev pub raw_place : ℕ → ℕ
+raw_place n = 16 - n
 
 -- the last bit of a byte, a length of one byte, and so many octets
 abbrev pub small_bytes : List ℕ → List ℕ
@@ -131,12 +131,12 @@ unfoldable pub lent : List ℕ
 lent = replicate 64 0
 
 unfoldable pub enters : Entry → List ℕ → List ℕ → Outcome
-enters downlink s w = parse-pdus s 0 down up w
-enters uplink s w = parse-pdus s 1 down up w
-enters apdu s w = parse-apdu s down up w
-enters cm-logon s w = parse-cm s 0 w
-enters cm-ground s w = parse-cm s 1 w
-enters acse-apdu s w = parse-acse-apdu s w
+enters downlink s w = parse_pdus s 0 down up w
+enters uplink s w = parse_pdus s 1 down up w
+enters apdu s w = parse_apdu s down up w
+enters cm-logon s w = parse_cm s 0 w
+enters cm-ground s w = parse_cm s 1 w
+enters acse-apdu s w = parse_acse_apdu s w
 
 ---------------------------------------------------------------- how an answer is written
 

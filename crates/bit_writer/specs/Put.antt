@@ -1,5 +1,5 @@
 -- Bits put into a list of bytes. A bit's place counts from the top of the first byte.
-use Rattle.std.specs.Prelude.{List, [], ◌∷◌, ℕ, zero, suc, ◌+◌, ◌-◌, ◌*◌, ◌/◌, ◌%◌, ◌^◌, get_or, set}
+use Rattle.std.specs.Prelude.{List, [], ◌∷◌, ℕ, suc, ◌+◌, ◌-◌, ◌*◌, ◌/◌, ◌%◌, ◌^◌, get_or, set}
 
 -- the byte v with its bit i, from the top, made x, of which only whether it is odd counts
 unfoldable pub in_byte : ℕ → ℕ → ℕ → ℕ

@@ -1,18 +1,17 @@
 -- The words that a change leaves are the picture of the changed entries.
-use mathlib.Core.Path.{◌≡◌, refl, sym, ap, ◌∙◌}
+use mathlib.Core.Path.{◌≡◌, refl, ap, ◌∙◌}
 use mathlib.Core.Bool.{Bool, true, false, cond}
 use mathlib.Core.List.{List, [], ◌∷◌, ◌++◌, append_assoc}
-use mathlib.Core.Option.{some}
-use Prim.Native.Nat.{ℕ, zero, suc, ◌+◌, ◌*◌, ◌-◌, ◌≤◌, ◌<◌}
+use Prim.Native.Nat.{ℕ, zero, suc, ◌+◌, ◌*◌, ◌-◌, ◌<◌}
 use native.Mathlib.Omega.{arith}
 use lib.Dec.{eqb}
 use lib.ListN.{length, take, drop, replicate, length-drop, replicate-append-replicate}
 use lib.Seq.{drop-drop}
 use Rattle.book_entries.specs.declared.Entry.{Entry}
 use Rattle.book_entries.specs.Entries.{words}
-use Rattle.book_entries.specs.Book.{place, numbered, picture, laid, entries, listed}
+use Rattle.book_entries.specs.Book.{place, numbered, picture, laid, entries}
 use Rattle.book_entries.proofs.Places.{from, places}
-use Rattle.book_entries.proofs.Listed.{Listing, listing, clear_zeros}
+use Rattle.book_entries.proofs.Listed.{Listing, clear_zeros}
 use Rattle.book_changes.specs.Changes.{insert, without, vacant}
 use Rattle.book_changes.proofs.Orderly.{insert-length, without-length}
 
@@ -22,13 +21,13 @@ drop_zeros (suc k) zero = let e : 0 - suc k ≡ 0 = omega arith in rw e
 drop_zeros (suc k) (suc n) = let e : suc n - suc k ≡ n - k = omega arith in rw e (drop_zeros k n)
 
 -- the words without those of the entry with number k
-without-words : (k : ℕ) (w : List ℕ) → place (numbered k) (entries w) < length (entries w) → take (place (numbered k) (entries w) * 4) w ++ picture (from w (place (numbered k) (entries w) + 1)) ≡ picture (without k (entries w))
+without_words : (k : ℕ) (w : List ℕ) → place (numbered k) (entries w) < length (entries w) → take (place (numbered k) (entries w) * 4) w ++ picture (from w (place (numbered k) (entries w) + 1)) ≡ picture (without k (entries w))
 unfolding entries place without picture
-without-words k [] p = absurd (omega arith)
-without-words k (a ∷ []) p = absurd (omega arith)
-without-words k (a ∷ b ∷ []) p = absurd (omega arith)
-without-words k (a ∷ b ∷ m ∷ []) p = absurd (omega arith)
-without-words k (a ∷ b ∷ m ∷ s ∷ w) p = used (eqb s 0) p (without-words k w)
+without_words k [] p = absurd (omega arith)
+without_words k (a ∷ []) p = absurd (omega arith)
+without_words k (a ∷ b ∷ []) p = absurd (omega arith)
+without_words k (a ∷ b ∷ m ∷ []) p = absurd (omega arith)
+without_words k (a ∷ b ∷ m ∷ s ∷ w) p = used (eqb s 0) p (without_words k w)
   where
     e : Entry
     e = record { high = a; low = b; number = m; shape = s }
@@ -69,4 +68,4 @@ module _ {w : List ℕ} {E : List Entry} (h : Listing w E) where
   unfolding laid
   laid-without k p x =
       let a : 4 + (length w - length E * 4) ≡ length w - length (without k E) * 4 = omega (arith, without-length k E (rw h.is at p), places w, ap length h.is) in
-      rw (x, without-words k w p, h.is, rest, append_assoc, replicate-append-replicate {A = ℕ} 4 (length w - length E * 4) 0, a)
+      rw (x, without_words k w p, h.is, rest, append_assoc, replicate-append-replicate {A = ℕ} 4 (length w - length E * 4) 0, a)

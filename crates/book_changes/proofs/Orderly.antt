@@ -1,18 +1,18 @@
 -- Orderly entries stay so with a new one among them, and with one less.
 use mathlib.Core.Path.{◌≡◌, refl, sym, ap, ◌∙◌}
-use mathlib.Core.Bool.{Bool, true, false, cond, not, ◌&&◌, ◌||◌, true≢false, false≢true}
+use mathlib.Core.Bool.{Bool, true, false, cond, not, ◌&&◌, ◌||◌}
 use mathlib.Core.List.{List, [], ◌∷◌}
-use Prim.Native.Nat.{ℕ, suc, ◌≤◌, ◌<◌}
+use Prim.Native.Nat.{ℕ, suc, ◌<◌}
 use native.Mathlib.Decide.{ℕ_discrete}
 use native.Mathlib.Omega.{arith}
 use lib.Dec.{ltb, eqb}
 use lib.ListN.{length}
-use borrow.Author.Tests.{ltb-true, ltb-false, lt-ltb, eq-eqb, ne_eqb, eqb-true, eqb-false, not-true}
+use borrow.Author.Tests.{ltb-true, ltb-false, lt-ltb, eq-eqb, ne_eqb, eqb-false, not-true}
 use Rattle.book_entries.specs.declared.Entry.{Entry}
 use Rattle.book_entries.specs.Entries.{text, size, good}
 use Rattle.book_entries.specs.Book.{holds, place, named, numbered, before, fair, orderly}
 use Rattle.book_entries.proofs.Tests.{both, neither}
-use Rattle.book_changes.specs.Changes.{lower, higher, insert, without}
+use Rattle.book_changes.specs.Changes.{higher, insert, without}
 
 -- the name of e
 abbrev pub alike : Entry → Entry → Bool

@@ -1,18 +1,17 @@
 -- Places list the entries E exactly if they are their picture, and the entries are orderly.
-use mathlib.Core.Path.{◌≡◌, refl, sym, ap, ◌∙◌}
-use mathlib.Core.Bool.{Bool, true, false, cond, ◌&&◌}
+use mathlib.Core.Path.{◌≡◌, refl, ap, ◌∙◌}
+use mathlib.Core.Bool.{Bool, true, false, cond}
 use mathlib.Core.List.{List, [], ◌∷◌, ◌++◌}
 use mathlib.Core.Option.{Option, none, some}
-use Prim.Native.Nat.{ℕ, zero, suc, ◌+◌, ◌*◌, ◌-◌, ◌≤◌, ◌<◌}
+use Prim.Native.Nat.{ℕ, zero, suc, ◌+◌, ◌*◌, ◌-◌, ◌≤◌}
 use native.Mathlib.Omega.{arith}
 use lib.Dec.{eqb}
 use lib.ListN.{length, drop, replicate, length-append, length-drop, length-replicate}
 use lib.Seq.{drop_at}
 use borrow.Author.Tests.{eqb-true, ne_eqb}
 use Rattle.book_entries.specs.declared.Entry.{Entry}
-use Rattle.book_entries.specs.Entries.{good}
 use Rattle.book_entries.specs.Book.{fair, orderly, picture, laid, entries, clear, listed}
-use Rattle.book_entries.proofs.Places.{pictured, places, picture-length}
+use Rattle.book_entries.proofs.Places.{pictured, picture-length}
 use Rattle.book_entries.proofs.Tests.{both, shape_good}
 
 pub clear_zeros : (x : List ℕ) → clear x ≡ true → x ≡ replicate (length x) 0

@@ -1,10 +1,10 @@
 -- Tests of entries.
-use mathlib.Core.Path.{◌≡◌, refl, sym, ap, ◌∙◌}
+use mathlib.Core.Path.{◌≡◌, refl, sym, ◌∙◌}
 use mathlib.Core.Bool.{Bool, true, false, cond, ◌&&◌, ◌||◌, true≢false, false≢true}
 use mathlib.Core.List.{List, [], ◌∷◌}
-use Prim.Native.Nat.{ℕ, suc, ◌≤◌, ◌<◌}
+use Prim.Native.Nat.{suc, ◌<◌}
 use native.Mathlib.Omega.{arith}
-use lib.Dec.{leb, ltb, eqb, leb-zero, leb-suc-suc}
+use lib.Dec.{ltb, leb-zero, leb-suc-suc}
 use lib.ListN.{length}
 use borrow.Author.Tests.{leb-true}
 use Rattle.book_entries.specs.declared.Entry.{Entry}

@@ -1,16 +1,15 @@
 -- Each name and each number is held once, and look-ups find exactly the entries held.
-use mathlib.Core.Path.{◌≡◌, refl, sym, ap, ◌∙◌}
-use mathlib.Core.Bool.{Bool, true, false, cond, ◌&&◌, ◌||◌, true≢false, false≢true}
+use mathlib.Core.Path.{◌≡◌, refl, sym, ◌∙◌}
+use mathlib.Core.Bool.{Bool, true, false, cond, ◌||◌, true≢false, false≢true}
 use mathlib.Core.List.{List, [], ◌∷◌}
-use Prim.Native.Nat.{ℕ, suc, ◌≤◌, ◌<◌}
+use Prim.Native.Nat.{ℕ, suc, ◌<◌}
 use native.Mathlib.Omega.{arith}
-use lib.Dec.{ltb, eqb}
-use lib.ListN.{length, get_or}
+use lib.ListN.{get_or}
 use borrow.Author.Tests.{ltb-true, eq-eqb}
 use Rattle.book_entries.specs.declared.Entry.{Entry}
 use Rattle.book_entries.specs.Entries.{text, size, bytes}
-use Rattle.book_entries.specs.Book.{place, holds, named, numbered, before, orderly}
-use Rattle.book_changes.specs.Changes.{without, vacant}
+use Rattle.book_entries.specs.Book.{place, holds, named, before, orderly}
+use Rattle.book_changes.specs.Changes.{vacant}
 use Rattle.book_changes.proofs.Orderly.{alike, alike_comm, first-fair, others}
 use Rattle.name_book.specs.Calls.{first, find}
 use Rattle.name_book.specs.declared.Found as found

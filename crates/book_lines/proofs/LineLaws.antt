@@ -1,14 +1,14 @@
 -- Digits written from the last one on.
-use mathlib.Core.Path.{◌≡◌, refl, sym, ap, ◌∙◌}
+use mathlib.Core.Path.{◌≡◌, refl, sym, ◌∙◌}
 use mathlib.Core.List.{List, [], ◌∷◌, ◌++◌, append_assoc, append-nil}
 use Prim.Native.Nat.{ℕ, zero, suc, ◌+◌, ◌*◌, ◌/◌, ◌%◌, ◌-◌, ◌^◌, ◌≤◌, ◌<◌}
 use native.Mathlib.Numerals.{add-one}
 use native.Mathlib.Omega.{arith}
-use lib.ListN.{length, take, drop, set, length-append, length-drop, length-set, take-append-drop}
+use lib.ListN.{length, take, drop, set, length-append, length-drop, take-append-drop}
 use lib.Seq.{take-set-le, set_split, take_at, drop_at, drop-drop, drop-append-add, append_snoc, length-take-le}
 use Rattle.book_entries.specs.declared.Entry.{Entry}
 use Rattle.book_entries.specs.Entries.{text, size, bytes}
-use Rattle.book_lines.specs.Lines.{digit, digits, put, line, saved}
+use Rattle.book_lines.specs.Lines.{digit, digits, put, line}
 
 pub digits-length : (n x : ℕ) → length (digits n x) ≡ n
 unfolding digits

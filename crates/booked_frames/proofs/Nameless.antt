@@ -10,19 +10,19 @@ use lib.ListN.{length}
 use Rattle.x691.specs.Types.{Value}
 use Rattle.atn.specs.Format.{type_of}
 use Rattle.atn.specs.Messages.{forward}
-use Rattle.atn.specs.Entries.{frame-fits, table_fits}
+use Rattle.atn.specs.Entries.{frame_fits, table_fits}
 use Rattle.book_entries.specs.declared.Entry.{Entry}
 use Rattle.book_entries.specs.Entries.{text, size, good}
 use Rattle.book_entries.specs.Book.{holds, named, numbered}
 use Rattle.counted_books.specs.Counted.{held, room}
 use Rattle.forward_names.specs.declared.Named.{Named}
-use Rattle.forward_names.specs.Names.{forward-name}
+use Rattle.forward_names.specs.Names.{forward_name}
 use Rattle.forward_names.specs.Forwarded.{Forwards}
 use Rattle.forward_names.proofs.Identifiers.{each-named}
 use Rattle.name_book.specs.declared.Added.{Added}
 use Rattle.name_book.specs.declared.Added.TheVariants.{New, Repeated, NoName, Refused}
 use Rattle.name_book.specs.Calls.{opened, offer, add}
-use Rattle.booked_frames.specs.Frames.{offered, add-frame}
+use Rattle.booked_frames.specs.Frames.{offered, add_frame}
 use Rattle.booked_frames.proofs.FrameLaws.{named-entry}
 
 -- the answers to an entry that has a name
@@ -45,8 +45,8 @@ module _ (e : Entry) (g : good e ≡ true) where
       go none h = let x : Refused 18 ≡ NoName = rw (h, opened) at q in let z : ◌≡◌ {A = ℕ} 0 1 = cc in omega arith
       go (some E) h = offer-named (room w) E (rw (h, opened) at q)
 
-pub never_nameless : (w s : List ℕ) (k : ℕ) (down up : List ℕ) → frame-fits s ≡ true → (table_fits down && table_fits up) ≡ true → {p : ℕ} {v : Value (type_of (forward down up))} → Forwards s down up p v
-    → (add-frame w s k down up).0 ≡ NoName → ⊥
-unfolding add-frame
+pub never_nameless : (w s : List ℕ) (k : ℕ) (down up : List ℕ) → frame_fits s ≡ true → (table_fits down && table_fits up) ≡ true → {p : ℕ} {v : Value (type_of (forward down up))} → Forwards s down up p v
+    → (add_frame w s k down up).0 ≡ NoName → ⊥
+unfolding add_frame
 never_nameless w s k down up fits tables f =
-    add-named (offered (forward-name s down up) k (length s)) (named-entry s k down up (ap (λ (n : Named). n.number) (each-named s down up fits tables f))) w
+    add-named (offered (forward_name s down up) k (length s)) (named-entry s k down up (ap (λ (n : Named). n.number) (each-named s down up fits tables f))) w

@@ -119,19 +119,19 @@ module _ (d : ℕ) (down up s : List ℕ) {b : Brief} (one : d ≤ 1) where
           ∙ rw (index_is d down up) (pull_go (bit_of s) e 1 (index_bits d) _ (omega arith) ∙ rw (← index, ← at, q)))
           x
 
-      pub frame_user_abort : i ≡ 0 → Reason s e p i b tag.user_abort-reason 12 → Frame d down up s b e
+      pub frame_user_abort : i ≡ 0 → Reason s e p i b tag.user_abort_reason 12 → Frame d down up s b e
       unfolding read_choice
       frame_user_abort q x = frame_indexed (rw q (go d)) x
         where
-          go : (d : ℕ) → read_choice (alternatives d down up) 0 (0, 0) (bit_of s) e p ≡ read (ext_reason tag.user_abort-reason 12) (0, 0) (bit_of s) e p
+          go : (d : ℕ) → read_choice (alternatives d down up) 0 (0, 0) (bit_of s) e p ≡ read (ext_reason tag.user_abort_reason 12) (0, 0) (bit_of s) e p
           go zero = refl
           go (suc d) = refl
 
-      pub frame_provider_abort : i ≡ 1 → Reason s e p i b tag.provider_abort-reason 7 → Frame d down up s b e
+      pub frame_provider_abort : i ≡ 1 → Reason s e p i b tag.provider_abort_reason 7 → Frame d down up s b e
       unfolding read_choice
       frame_provider_abort q x = frame_indexed (rw q (go d)) x
         where
-          go : (d : ℕ) → read_choice (alternatives d down up) 1 (0, 0) (bit_of s) e p ≡ read (ext_reason tag.provider_abort-reason 7) (0, 0) (bit_of s) e p
+          go : (d : ℕ) → read_choice (alternatives d down up) 1 (0, 0) (bit_of s) e p ≡ read (ext_reason tag.provider_abort_reason 7) (0, 0) (bit_of s) e p
           go zero = refl
           go (suc d) = refl
 

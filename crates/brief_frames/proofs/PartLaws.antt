@@ -77,22 +77,22 @@ small-short : (m t : ℕ) (x : Ctx) (b : ℕ → ℕ) (e at v : ℕ) → at + 7 
 unfolding read then fork
 small-short m t x b e at v h z u = ap (glue [] (mark m)) (pull_go b e at 1 _ (omega arith) ∙ rw z (pull_go b e (at + 1) 6 _ (omega arith) ∙ rw (← u)))
 
-pub extension-short : (s : List ℕ) (e v : ℕ) → 8 ≤ e → uint (bit_of s) 1 1 ≡ 0 → v ≡ uint (bit_of s) 2 6 → Extension s e ≡ ok 8 (rec tag.pdu 0 0 1 1 ∷ rec tag.extension-index 0 v 0 1 ∷ []) 2
+pub extension-short : (s : List ℕ) (e v : ℕ) → 8 ≤ e → uint (bit_of s) 1 1 ≡ 0 → v ≡ uint (bit_of s) 2 6 → Extension s e ≡ ok 8 (rec tag.pdu 0 0 1 1 ∷ rec tag.extension_index 0 v 0 1 ∷ []) 2
 unfolding read then glue or mark
-extension-short s e v h z u = ap (λ (a : Ans). glue [] 2 (glue (rec tag.pdu 0 0 1 1 ∷ []) 0 a)) (small-short 2 tag.extension-index (0, 0) (bit_of s) e 1 v h z u)
+extension-short s e v h z u = ap (λ (a : Ans). glue [] 2 (glue (rec tag.pdu 0 0 1 1 ∷ []) 0 a)) (small-short 2 tag.extension_index (0, 0) (bit_of s) e 1 v h z u)
 
 abbrev start : ℕ → Cursor
 start e = record { at = 1; end = e; why = 0; marks = 2 }
 
 abbrev brief : Got → Brief
-brief g = record { why = g.c.why; index = 0; extended = 1; tag = tag.extension-index; value = g.v; second = 0; place = 1; reach = g.c.at; marks = g.c.marks }
+brief g = record { why = g.c.why; index = 0; extended = 1; tag = tag.extension_index; value = g.v; second = 0; place = 1; reach = g.c.at; marks = g.c.marks }
 
 -- in either form, by the cursor behind it
 pub extension-read : (s : List ℕ) (e : ℕ) {g : Got} → 1 ≤ e → e ≡ length s * 8 → Smalls s (start e) g → Came (Extension s e) (behind_direction (brief g)) (brief g)
 unfolding read then glue or mark marked stopped
-extension-read s e {g} h q x = go (((takes_small {c = start e} 2 tag.extension-index refl x).took (0, 0)).led (h, omega arith))
+extension-read s e {g} h q x = go (((takes_small {c = start e} 2 tag.extension_index refl x).took (0, 0)).led (h, omega arith))
   where
-    go : Led (λ u p. read (small 2 tag.extension-index) (0, 0) (bit_of s) u p) (start e) g.c (rec tag.extension-index 0 g.v 0 1 ∷ []) → Came (Extension s e) (behind_direction (brief g)) (brief g)
+    go : Led (λ u p. read (small 2 tag.extension_index) (0, 0) (bit_of s) u p) (start e) g.c (rec tag.extension_index 0 g.v 0 1 ∷ []) → Came (Extension s e) (behind_direction (brief g)) (brief g)
     go (stayed n r) = absurd (n refl)
     go (went k m y a l r) = told (ap (λ (c : Cursor). c.why) r) (rw (a, r))
     go (failed w k m S n y a l r) = briefs.failed w (rec tag.pdu 0 0 1 1 ∷ S) (or 2 m) n (ap (λ (c : Cursor). c.why) r) (rw (a, r))

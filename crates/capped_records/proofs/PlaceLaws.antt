@@ -1,18 +1,18 @@
 -- Records one after another in lent words.
 use mathlib.Core.Path.{◌≡◌, refl, sym, ap, ◌∙◌}
 use mathlib.Core.Bool.{Bool, true, false}
-use mathlib.Core.List.{List, [], ◌∷◌, ◌++◌, append_assoc, append-nil}
+use mathlib.Core.List.{List, [], ◌∷◌, ◌++◌, append_assoc}
 use Prim.Native.Nat.{ℕ, zero, suc, ◌+◌, ◌-◌, ◌*◌, ◌≤◌, ◌<◌, min}
-use native.Mathlib.Nat.{add-zero, add-suc, suc-add, zero-mul, suc-mul}
+use native.Mathlib.Nat.{add-zero}
 use native.Mathlib.Omega.{arith}
 use lib.ListN.{length, take, drop, length-append, length-take, length-drop}
-use lib.Seq.{length-take-le, take_at, drop_at, drop-drop}
+use lib.Seq.{take_at, drop_at, drop-drop}
 use lib.Dec.{leb}
 use borrow.Author.Tests.{le-leb, lt-leb, leb-true, leb-false}
 use Rattle.atn.specs.Reading.{Rec, rec}
 use Rattle.atn.specs.Entries.{flat, need}
 use Rattle.schema_tables.specs.Entry.{top}
-use Rattle.capped_records.specs.Place.{counted, place_one, place, Put}
+use Rattle.capped_records.specs.Place.{counted, place_one, place}
 
 pub place-room : (w : List ℕ) (n : ℕ) (r : Rec) → n * 5 + 5 ≤ length w → place_one w n r ≡ take (n * 5) w ++ (flat (r ∷ []) ++ drop (n * 5 + 5) w)
 unfolding place_one

@@ -1,4 +1,6 @@
 // How far the clean message at the front of a frame goes. Its records are not wanted: the reading is lent one word, in which none fits.
+#![tactic(auto)]
+
 ghost use Rattle.std.specs.Prelude.{◌≡◌, List, ◌≤◌, length};
 ghost use Rattle.atn.specs.Reading.{Rec};
 ghost use Rattle.atn.specs.Messages.{acse};

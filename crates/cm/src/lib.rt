@@ -2,7 +2,7 @@
 #![tactic(auto)]
 
 ghost use Rattle.std.specs.Prelude.{◌≡◌, ◌≤◌, length};
-ghost use Rattle.atn.specs.Entries.{parse-cm, read_frame, settle};
+ghost use Rattle.atn.specs.Entries.{parse_cm, read_frame, settle};
 ghost use Rattle.answers.specs.Says.{Says};
 ghost use Rattle.cm_pdus.specs.Pdus.{pdu_of};
 
@@ -16,7 +16,7 @@ use spare_words::{CM_SPARE, copy};
 
 // Direction 0 is the aircraft's message, 1 the ground's.
 pub fn parse_cm(frame: &[u8], direction: u64, words: &mut [u64]) -> Answer
-    ensures { Says result words.new (parse-cm frame.now direction words.old) }
+    ensures { Says result words.new (parse_cm frame.now direction words.old) }
 {
     if LONGEST_FRAME < frame.len() {
         return refused(1, 0, 0, 0);

@@ -24,7 +24,7 @@ module _ {s : List ℕ} {at : At} (g : Got) where
 
   pub request_does : {a b c d e f h z : At} {w₀ w₁ w₂ w₃ w₄ w₅ w₆ w₇ : List ℕ} → Opens s at.c 6 g → Does 64 0 (Takes (ia5 tag.flight_id 2 8) s) (behind g at) a w₀ w₁ → Does 3 0 (Takes long_tsap s) a b w₁ w₂
       → Does 1536 0 (Maybe (g.v / 32 % 2) (addressed tag.ground_initiated) s) b c w₂ w₃ → Does 1536 0 (Maybe (g.v / 16 % 2) (applications tag.air_only_initiated) s) c d w₃ w₄
-      → Does 0 0 (Maybe (g.v / 8 % 2) unsupplied s) d e w₄ w₄ → Does 64 0 (Maybe (g.v / 4 % 2) (ia5 tag.airport-departure 4 4) s) e f w₄ w₅
+      → Does 0 0 (Maybe (g.v / 8 % 2) unsupplied s) d e w₄ w₄ → Does 64 0 (Maybe (g.v / 4 % 2) (ia5 tag.airport_departure 4 4) s) e f w₄ w₅
       → Does 64 0 (Maybe (g.v / 2 % 2) (ia5 tag.airport_destination 4 4) s) f h w₅ w₆ → Does 5 0 (Maybe (g.v % 2) etd s) h z w₆ w₇ → Does 3272 0 (Takes cm_logon_request s) at z w₀ w₇
   unfolding flags all_read
   request_does p flight tsap ground air facility from to time =

@@ -5,7 +5,7 @@ use Rattle.atn.specs.Messages.{unsupplied, cm_logon_request, cm_logon_response, 
 use Rattle.atn.specs.Tags as tag
 
 abbrev pub ground_pdus : Alts
-ground_pdus = cm_logon_response ∥ cm_logon_response ∥ unsupplied ∥ cm_logon_request ∥ cm_abort ∥ num tag.cm-forward_response 0 2 ∥ none_left
+ground_pdus = cm_logon_response ∥ cm_logon_response ∥ unsupplied ∥ cm_logon_request ∥ cm_abort ∥ num tag.cm_forward_response 0 2 ∥ none_left
 
 abbrev pub aircraft_pdus : Alts
 aircraft_pdus = cm_logon_request ∥ num tag.contact_response 0 1 ∥ cm_abort ∥ none_left

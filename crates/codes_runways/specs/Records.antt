@@ -7,8 +7,8 @@ use Rattle.codes_runways.specs.declared.Runway.{Runway}
 
 abbrev pub code_recs : Code → ℕ → List Rec
 code_recs v n =
-    rec tag.code-digit n v.first 0 v.first_at ∷ rec tag.code-digit n v.second 0 v.second_at ∷ rec tag.code-digit n v.third 0 v.third_at
-    ∷ rec tag.code-digit n v.fourth 0 v.fourth_at ∷ []
+    rec tag.code_digit n v.first 0 v.first_at ∷ rec tag.code_digit n v.second 0 v.second_at ∷ rec tag.code_digit n v.third 0 v.third_at
+    ∷ rec tag.code_digit n v.fourth 0 v.fourth_at ∷ []
 
 -- tags of the direction and the side
 abbrev pub runway_recs : ℕ → ℕ → Runway → ℕ → List Rec

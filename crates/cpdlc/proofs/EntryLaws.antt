@@ -6,7 +6,7 @@ use Prim.Native.Nat.{ℕ, ◌+◌, ◌*◌, ◌/◌, ◌%◌, ◌≤◌, ◌<◌
 use native.Mathlib.Omega.{arith}
 use lib.ListN.{length}
 use borrow.Author.Tests.{le-leb, lt-leb}
-use Rattle.atn.specs.Entries.{Reply, accept, ran_out, badly, unsupplied, or_else, after_out, after_bad, read_frame, pdus, Outcome, refused, settle, table_fits, direction-fits, decide, pdus_tests, apdu_tests, parse-pdus, parse-apdu}
+use Rattle.atn.specs.Entries.{Reply, accept, ran_out, badly, unsupplied, or_else, after_out, after_bad, read_frame, pdus, Outcome, refused, settle, table_fits, direction_fits, decide, pdus_tests, apdu_tests, parse_pdus, parse_apdu}
 use Rattle.answers.proofs.Entering.{enter-long, enter_tests}
 use Rattle.answers.specs.declared.Answer.{Answer}
 use Rattle.answers.specs.Says.{answer_of, Says}
@@ -16,33 +16,33 @@ use Rattle.verdicts.specs.Verdicts.{verdict_of}
 ---------------------------------------------------------------- the tests
 
 module _ (s : List ℕ) (d : ℕ) (down up w : List ℕ) where
-  pub pdus-long : 65536 < length s → ◌≡◌ {A = Outcome} (refused 1 0 0 0, w) (parse-pdus s d down up w)
-  unfolding parse-pdus
+  pub pdus-long : 65536 < length s → ◌≡◌ {A = Outcome} (refused 1 0 0 0, w) (parse_pdus s d down up w)
+  unfolding parse_pdus
   pdus-long h = enter-long (pdus_tests d down up) _ s w h
 
-  pub pdus-tables : length s ≤ 65536 → (table_fits down && table_fits up) ≡ false → ◌≡◌ {A = Outcome} (refused 2 0 0 0, w) (parse-pdus s d down up w)
-  unfolding parse-pdus decide
+  pub pdus-tables : length s ≤ 65536 → (table_fits down && table_fits up) ≡ false → ◌≡◌ {A = Outcome} (refused 2 0 0 0, w) (parse_pdus s d down up w)
+  unfolding parse_pdus decide
   pdus-tables h t = enter_tests (pdus_tests d down up) _ s w h (rw t)
 
-  pub pdus-direction : length s ≤ 65536 → (table_fits down && table_fits up) ≡ true → 1 < d → ◌≡◌ {A = Outcome} (refused 3 0 0 0, w) (parse-pdus s d down up w)
-  unfolding parse-pdus decide direction-fits
+  pub pdus-direction : length s ≤ 65536 → (table_fits down && table_fits up) ≡ true → 1 < d → ◌≡◌ {A = Outcome} (refused 3 0 0 0, w) (parse_pdus s d down up w)
+  unfolding parse_pdus decide direction_fits
   pdus-direction h t l = enter_tests (pdus_tests d down up) _ s w h (rw (t, lt-leb d 1 l))
 
-  pub pdus_reads : {o : Outcome} → length s ≤ 65536 → (table_fits down && table_fits up) ≡ true → d ≤ 1 → o ≡ settle (read_frame (pdus d down up) s) w → o ≡ parse-pdus s d down up w
-  unfolding parse-pdus decide direction-fits
+  pub pdus_reads : {o : Outcome} → length s ≤ 65536 → (table_fits down && table_fits up) ≡ true → d ≤ 1 → o ≡ settle (read_frame (pdus d down up) s) w → o ≡ parse_pdus s d down up w
+  unfolding parse_pdus decide direction_fits
   pdus_reads h t l e = enter_tests (pdus_tests d down up) _ s w h (e ∙ rw (t, le-leb d 1 l))
 
 module _ (s down up w : List ℕ) where
-  pub apdu-long : 65536 < length s → ◌≡◌ {A = Outcome} (refused 1 0 0 0, w) (parse-apdu s down up w)
-  unfolding parse-apdu
+  pub apdu-long : 65536 < length s → ◌≡◌ {A = Outcome} (refused 1 0 0 0, w) (parse_apdu s down up w)
+  unfolding parse_apdu
   apdu-long h = enter-long (apdu_tests down up) _ s w h
 
-  pub apdu-tables : length s ≤ 65536 → (table_fits down && table_fits up) ≡ false → ◌≡◌ {A = Outcome} (refused 2 0 0 0, w) (parse-apdu s down up w)
-  unfolding parse-apdu decide
+  pub apdu-tables : length s ≤ 65536 → (table_fits down && table_fits up) ≡ false → ◌≡◌ {A = Outcome} (refused 2 0 0 0, w) (parse_apdu s down up w)
+  unfolding parse_apdu decide
   apdu-tables h t = enter_tests (apdu_tests down up) _ s w h (rw t)
 
-  pub apdu_reads : {o : Outcome} → length s ≤ 65536 → (table_fits down && table_fits up) ≡ true → o ≡ settle (or_else (read_frame (pdus 0 down up) s) (read_frame (pdus 1 down up) s)) w → o ≡ parse-apdu s down up w
-  unfolding parse-apdu decide pdus
+  pub apdu_reads : {o : Outcome} → length s ≤ 65536 → (table_fits down && table_fits up) ≡ true → o ≡ settle (or_else (read_frame (pdus 0 down up) s) (read_frame (pdus 1 down up) s)) w → o ≡ parse_apdu s down up w
+  unfolding parse_apdu decide pdus
   apdu_reads h t e = enter_tests (apdu_tests down up) _ s w h (e ∙ rw t)
 
 ---------------------------------------------------------------- the two readings

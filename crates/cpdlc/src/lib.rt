@@ -1,6 +1,8 @@
 // CPDLC: `parse_pdus` and `parse_apdu`. A frame with a message is read into spare words first, so that a refusal leaves the lent ones and the number of records is known before any is written.
+#![tactic(auto)]
+
 ghost use Rattle.std.specs.Prelude.{◌≡◌, true, List, ℕ, ◌+◌, ◌*◌, ◌≤◌, length};
-ghost use Rattle.atn.specs.Entries.{parse-pdus, parse-apdu, pdus, read_frame, settle};
+ghost use Rattle.atn.specs.Entries.{parse_pdus, parse_apdu, pdus, read_frame, settle};
 ghost use Rattle.answers.specs.declared.Answer.TheVariants.{Refused};
 ghost use Rattle.answers.specs.Says.{Says};
 ghost use Rattle.sends.specs.Sends.{Sends};
@@ -33,7 +35,7 @@ const MANY_SPARE: usize = 6240;
 
 // A frame of a known direction: 0 is the downlink, 1 the uplink.
 pub fn parse_pdus(frame: &[u8], direction: u64, down: &[u8], up: &[u8], words: &mut [u64]) -> Answer
-    ensures { Says result words.new (parse-pdus frame.now direction down.now up.now words.old) }
+    ensures { Says result words.new (parse_pdus frame.now direction down.now up.now words.old) }
 {
     if LONGEST_FRAME < frame.len() {
         return refused(1, 0, 0, 0);
@@ -130,7 +132,7 @@ fn parse_long(
 
 // A frame of either direction: the downlink is read first, and the uplink where that is refused with 4 or 5.
 pub fn parse_apdu(frame: &[u8], down: &[u8], up: &[u8], words: &mut [u64]) -> Answer
-    ensures { Says result words.new (parse-apdu frame.now down.now up.now words.old) }
+    ensures { Says result words.new (parse_apdu frame.now down.now up.now words.old) }
 {
     if LONGEST_FRAME < frame.len() {
         return refused(1, 0, 0, 0);

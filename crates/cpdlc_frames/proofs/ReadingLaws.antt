@@ -7,7 +7,7 @@ use native.Mathlib.Omega.{arith}
 use lib.ListN.{length}
 use Rattle.x691.specs.Bits.{bit_of}
 use Rattle.atn.specs.Format.{out, bad, lack, quit}
-use Rattle.atn.specs.Reading.{Rec, stop, or, read}
+use Rattle.atn.specs.Reading.{Rec, stop, or}
 use Rattle.atn.specs.Entries.{Reply, accept, stopped, reply, read_frame, pdus}
 use Rattle.atn.proofs.Tame.{keeps_stop, tame, tame_fields, tame_choice}
 use Rattle.atn.proofs.Calm.{is_quit, gives_up, calm, calm_read}

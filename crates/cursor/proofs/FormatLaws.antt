@@ -1,13 +1,13 @@
 -- What was read of a format, from what was read of its parts: a law for each kind of format.
-use Rattle.std.proofs.Common.{◌≡◌, ℕ, zero, suc, ◌+◌, ◌-◌, ◌*◌, ◌/◌, ◌%◌, ◌^◌, ◌<◌, ◌≤◌, Bool, true, false, List, [], ◌∷◌, ◌++◌, sym, refl, ap, ◌∙◌, append-nil, add-zero, arith}
-use Rattle.x691.specs.Bits.{bit_of, uint, bits_of, Spells}
+use Rattle.std.proofs.Common.{◌≡◌, ℕ, zero, suc, ◌+◌, ◌-◌, ◌/◌, ◌%◌, ◌^◌, ◌<◌, Bool, true, false, List, [], ◌∷◌, ◌++◌, sym, refl, ap, ◌∙◌, append-nil, add-zero, arith}
+use Rattle.x691.specs.Bits.{bit_of, bits_of, Spells}
 use Rattle.x691.specs.Encoding.{width, width_in, size_bits, highest}
 use Rattle.atn.specs.Format.{Fmt, out, ext, choice, seq, many, noted, null, refuse, Flds, end, ◌⨾◌, ◌⨾?◌, or_note, unread, Alts, alternatives_of, Why}
-use Rattle.atn.specs.Reading.{Rec, rec, Ctx, Ans, ok, stop, then, fork, times, over, unless, mark, or, fetch, pull, sized, flags, unread_marks, within, read, read_fields, read_choice}
+use Rattle.atn.specs.Reading.{Rec, rec, Ctx, Ans, ok, then, fork, times, mark, flags, unread_marks, within, read, read_fields, read_choice}
 use Rattle.atn.proofs.Steps.{then-nil, fetch_go, fetch_no, sized_go}
 use Rattle.cursor.specs.declared.place.Cursor.{Cursor}
 use Rattle.cursor.specs.declared.place.Got.{Got}
-use Rattle.cursor.specs.Place.{number, put, stopped, marked, Inside, Pulled, stuck, short, got, Pulls, Opened, shut_already, ran_short, opened, Opens, Led, stayed, went, failed, Reads, Takes}
+use Rattle.cursor.specs.Place.{number, stopped, marked, Inside, Pulls, Opened, shut_already, ran_short, opened, Opens, Led, stayed, went, failed, Reads, Takes}
 use Rattle.cursor.specs.Formats.{Fields, Maybe, Times}
 use Rattle.atn.proofs.Marks.{or_nil}
 use Rattle.cursor.proofs.Laws.{reads_here, pull-from, led_inside, led_stays, led_from, bit-of, reads_same, reads_then, reads_ok, reads_stop, pull-then, marked-nil}

@@ -1,10 +1,10 @@
 -- Readings put together: one after another, behind a number, on one side of a fork.
-use Rattle.std.proofs.Common.{◌≡◌, ℕ, zero, suc, ◌+◌, ◌-◌, ◌*◌, ◌/◌, ◌%◌, ◌^◌, ◌<◌, ◌≤◌, cond, eqb, List, [], ◌∷◌, ◌++◌, length, sym, refl, ap, ◌∙◌, append-nil, arith, eq-eqb, ne_eqb}
+use Rattle.std.proofs.Common.{◌≡◌, ℕ, zero, suc, ◌+◌, ◌-◌, ◌/◌, ◌%◌, ◌^◌, cond, eqb, List, [], ◌++◌, sym, refl, ap, ◌∙◌, arith, eq-eqb, ne_eqb}
 use Rattle.x691.specs.Bits.{bit_of, uint}
 use Rattle.x691.proofs.BitLaws.{uint-one}
 use Rattle.per.proofs.Laws.{uint-within}
-use Rattle.atn.specs.Format.{Why, out, bad, lack, quit}
-use Rattle.atn.specs.Reading.{Rec, rec, Ctx, Ans, ok, past, stop, glue, then, fork, or, pull}
+use Rattle.atn.specs.Format.{Why, out}
+use Rattle.atn.specs.Reading.{Rec, Ans, ok, stop, glue, then, or, pull}
 use Rattle.atn.proofs.Marks.{or_assoc, or_nil}
 use Rattle.atn.proofs.Steps.{pull_go, pull_no}
 use Rattle.cursor.specs.declared.place.Cursor.{Cursor}

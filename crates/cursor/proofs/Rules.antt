@@ -4,7 +4,7 @@ use Rattle.x691.specs.Bits.{bit_of, uint}
 use Rattle.atn.specs.Format.{out}
 use Rattle.cursor.specs.declared.place.Cursor.{Cursor}
 use Rattle.cursor.specs.declared.place.Got.{Got}
-use Rattle.cursor.specs.Place.{number, put, Inside, Pulled, Pulls, stuck, short, got, Opened, shut_already, ran_short, opened, Opens}
+use Rattle.cursor.specs.Place.{number, put, Pulled, Pulls, stuck, short, got, Opened, shut_already, ran_short, opened, Opens}
 
 module _ (s : List ℕ) (c : Cursor) (n : ℕ) where
   pub pulls_stuck : (c.why ≡ 0 → ⊥) → Pulls s c n (record { v = 0; c = c })

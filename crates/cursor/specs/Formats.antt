@@ -2,7 +2,7 @@
 use Rattle.std.specs.Prelude.{ℕ, List, []}
 use Rattle.x691.specs.Bits.{bit_of}
 use Rattle.atn.specs.Format.{Fmt, Flds}
-use Rattle.atn.specs.Reading.{Rec, Ctx, Ans, ok, fork, times, read, read_fields}
+use Rattle.atn.specs.Reading.{Rec, Ctx, ok, fork, times, read, read_fields}
 use Rattle.cursor.specs.declared.place.Cursor.{Cursor}
 use Rattle.cursor.specs.Place.{Reads}
 

@@ -1,8 +1,8 @@
 -- What it is that a function read from a cursor.
-use Rattle.std.specs.Prelude.{◌≡◌, ℕ, ◌+◌, ◌-◌, ◌*◌, ◌<◌, ◌≤◌, Bool, true, false, cond, List, [], ◌∷◌, length, ◌==◌, ◌≢◌}
+use Rattle.std.specs.Prelude.{◌≡◌, ℕ, ◌+◌, ◌-◌, ◌*◌, ◌<◌, ◌≤◌, cond, List, length, ◌==◌, ◌≢◌}
 use Rattle.x691.specs.Bits.{bit_of, uint}
 use Rattle.atn.specs.Format.{Fmt, Why, out, bad, lack, quit}
-use Rattle.atn.specs.Reading.{Rec, rec, Ctx, Ans, ok, past, stop, or, read}
+use Rattle.atn.specs.Reading.{Rec, Ctx, Ans, ok, stop, or, read}
 use Rattle.cursor.specs.declared.place.Cursor.{Cursor}
 use Rattle.cursor.specs.declared.place.Got.{Got}
 

@@ -10,7 +10,7 @@ use borrow.Author.Tests.{leb-true}
 use Rattle.atn.specs.Reading.{Rec}
 use Rattle.atn.specs.Places.{Rising}
 use Rattle.atn.specs.Messages.{aircraft_pdus, ground_pdus, acse}
-use Rattle.atn.specs.Entries.{Reply, accept, ran_out, badly, unsupplied, Outcome, Test, test, frame-fits, refused, need, settle, decide, enter, read_frame, or_else, pdus, pdus_tests, apdu_tests, cm_of, cm_tests, parse-pdus, parse-apdu, parse-cm, parse-acse-apdu}
+use Rattle.atn.specs.Entries.{Reply, accept, ran_out, badly, unsupplied, Outcome, Test, test, frame_fits, refused, need, settle, decide, enter, read_frame, or_else, pdus, pdus_tests, apdu_tests, cm_of, cm_tests, parse_pdus, parse_apdu, parse_cm, parse_acse_apdu}
 use Rattle.atn.proofs.Each.{parse-pdus_owes, parse-apdu_owes, parse-cm_owes, parse-acse-apdu_owes}
 use Rattle.atn.proofs.Outcomes.{answers_differ, settle-fits, settle_full, decide-accepted}
 use Rattle.atn.proofs.Inverse.{both}
@@ -51,27 +51,27 @@ climbs : (ts : List Test) (F : List ℕ → Reply) → of_three ts ≡ true → 
 unfolding enter of_three
 climbs ts F e r =
     record {
-      told = λ s w h. (decide-accepted (test (frame-fits s) 1 ∷ ts) (F s) w h).1;
-      numbers = λ s w h. decide-numbered (test (frame-fits s) 1 ∷ ts) (F s) w e h;
+      told = λ s w h. (decide-accepted (test (frame_fits s) 1 ∷ ts) (F s) w h).1;
+      numbers = λ s w h. decide-numbered (test (frame_fits s) 1 ∷ ts) (F s) w e h;
       rises = λ s {c} {p} {m} {R} h. r s c p m R h;
     }
 
-pub of_parse-pdus : (d : ℕ) (down up : List ℕ) → Promises (pdus_tests d down up) (λ s. read_frame (pdus d down up) s) (λ s w. parse-pdus s d down up w)
-unfolding parse-pdus of_three
+pub of_parse-pdus : (d : ℕ) (down up : List ℕ) → Promises (pdus_tests d down up) (λ s. read_frame (pdus d down up) s) (λ s w. parse_pdus s d down up w)
+unfolding parse_pdus of_three
 of_parse-pdus d down up =
-    promises (λ s. read_frame (pdus d down up) s) (λ s w. parse-pdus s d down up w) (parse-pdus_owes d down up)
+    promises (λ s. read_frame (pdus d down up) s) (λ s w. parse_pdus s d down up w) (parse-pdus_owes d down up)
     (climbs (pdus_tests d down up) (λ s. read_frame (pdus d down up) s) refl (λ s c p m R h. (frame_rising s (pdus d down up) h).0))
 
-pub of_parse-apdu : (down up : List ℕ) → Promises (apdu_tests down up) (λ s. or_else (read_frame (aircraft_pdus down) s) (read_frame (ground_pdus down up) s)) (λ s w. parse-apdu s down up w)
-unfolding parse-apdu of_three
+pub of_parse-apdu : (down up : List ℕ) → Promises (apdu_tests down up) (λ s. or_else (read_frame (aircraft_pdus down) s) (read_frame (ground_pdus down up) s)) (λ s w. parse_apdu s down up w)
+unfolding parse_apdu of_three
 of_parse-apdu down up =
-    promises (λ s. or_else (read_frame (aircraft_pdus down) s) (read_frame (ground_pdus down up) s)) (λ s w. parse-apdu s down up w) (parse-apdu_owes down up)
+    promises (λ s. or_else (read_frame (aircraft_pdus down) s) (read_frame (ground_pdus down up) s)) (λ s w. parse_apdu s down up w) (parse-apdu_owes down up)
     (climbs (apdu_tests down up) (λ s. or_else (read_frame (aircraft_pdus down) s) (read_frame (ground_pdus down up) s)) refl (λ s c p m R h. (apdu_rising s (aircraft_pdus down) (ground_pdus down up) h).0))
 
-pub of_parse-cm : (d : ℕ) → Promises (cm_tests d) (λ s. read_frame (cm_of d) s) (λ s w. parse-cm s d w)
-unfolding parse-cm of_three
-of_parse-cm d = promises (λ s. read_frame (cm_of d) s) (λ s w. parse-cm s d w) (parse-cm_owes d) (climbs (cm_tests d) (λ s. read_frame (cm_of d) s) refl (λ s c p m R h. (frame_rising s (cm_of d) h).0))
+pub of_parse-cm : (d : ℕ) → Promises (cm_tests d) (λ s. read_frame (cm_of d) s) (λ s w. parse_cm s d w)
+unfolding parse_cm of_three
+of_parse-cm d = promises (λ s. read_frame (cm_of d) s) (λ s w. parse_cm s d w) (parse-cm_owes d) (climbs (cm_tests d) (λ s. read_frame (cm_of d) s) refl (λ s c p m R h. (frame_rising s (cm_of d) h).0))
 
-pub of_parse-acse-apdu : Promises [] (λ s. read_frame acse s) (λ s w. parse-acse-apdu s w)
-unfolding parse-acse-apdu of_three
-of_parse-acse-apdu = promises (λ s. read_frame acse s) (λ s w. parse-acse-apdu s w) parse-acse-apdu_owes (climbs [] (λ s. read_frame acse s) refl (λ s c p m R h. (frame_rising s acse h).0))
+pub of_parse-acse-apdu : Promises [] (λ s. read_frame acse s) (λ s w. parse_acse_apdu s w)
+unfolding parse_acse_apdu of_three
+of_parse-acse-apdu = promises (λ s. read_frame acse s) (λ s w. parse_acse_apdu s w) parse-acse-apdu_owes (climbs [] (λ s. read_frame acse s) refl (λ s c p m R h. (frame_rising s acse h).0))

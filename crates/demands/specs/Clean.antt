@@ -2,7 +2,7 @@
 use Rattle.std.specs.Prelude.{◌≡◌, true, false, List, ◌++◌, ℕ, ◌≤◌, length, drop}
 use Rattle.atn.specs.Format.{Fmt}
 use Rattle.atn.specs.Reading.{Rec}
-use Rattle.atn.specs.Entries.{Outcome, flat, need, Test, frame-fits}
+use Rattle.atn.specs.Entries.{Outcome, flat, need, Test, frame_fits}
 use Rattle.atn.specs.Demands.{passes, Message}
 use Rattle.answers.specs.declared.Answer.{Answer}
 use Rattle.answers.specs.declared.Answer.TheVariants.{Accepted}
@@ -13,5 +13,5 @@ pub record Cleanly (ts : List Test) (f : Fmt) (P : List ℕ → List ℕ → Out
   -- only then, and the records are the message's
   pub sound : (s w : List ℕ) {p k : ℕ} {w₁ : List ℕ} → Says (Accepted false p 0 k) w₁ (P s w) → (R : List Rec) × Message f s p R × (k ≡ length R) × (w₁ ≡ flat R ++ drop (need R) w)
   -- always then
-  pub complete : (s w : List ℕ) (p : ℕ) (R : List Rec) {r : Answer} {w₁ : List ℕ} → frame-fits s ≡ true → passes ts ≡ true → Message f s p R → need R ≤ length w → Says r w₁ (P s w)
+  pub complete : (s w : List ℕ) (p : ℕ) (R : List Rec) {r : Answer} {w₁ : List ℕ} → frame_fits s ≡ true → passes ts ≡ true → Message f s p R → need R ≤ length w → Says r w₁ (P s w)
       → (r ≡ Accepted false p 0 (length R)) × (w₁ ≡ flat R ++ drop (need R) w)

@@ -2,7 +2,7 @@
 use Rattle.std.specs.Prelude.{◌≡◌, Bool, true, false, List, ◌++◌, ℕ, ◌+◌, ◌*◌, ◌≤◌, ◌<◌, length, drop, take}
 use Rattle.atn.specs.Reading.{Rec}
 use Rattle.atn.specs.Places.{Rising}
-use Rattle.atn.specs.Entries.{Reply, accept, Outcome, flat, need, Test, frame-fits}
+use Rattle.atn.specs.Entries.{Reply, accept, Outcome, flat, need, Test, frame_fits}
 use Rattle.atn.specs.Demands.{passes, Shares, Longer, Enough}
 use Rattle.answers.specs.declared.Answer.{Answer}
 use Rattle.answers.specs.declared.Answer.TheVariants.{Accepted, Refused}
@@ -31,9 +31,9 @@ pub record Promises (ts : List Test) (F : List ℕ → Reply) (P : List ℕ → 
   -- "Cut to whole bytes with fewer than p bits, and given enough room, the frame is cut or ran out, never whole"
   pub cut_short : (s w v : List ℕ) (j : ℕ) {p m k : ℕ} {r : Answer} {w₁ v₁ : List ℕ} → Says (Accepted false p m k) w₁ (P s w) → j * 8 < p → Enough (F (take j s)) v → Says r v₁ (P (take j s) v) → Ended r
   -- "No room is said exactly when an accepted reading's records do not fit": only then, and only behind all of the tests
-  pub no_room : (s w : List ℕ) {p k l : ℕ} {w₁ : List ℕ} → Says (Refused 7 p k l) w₁ (P s w) → (frame-fits s ≡ true) × (passes ts ≡ true) × (c : Bool) × (m : ℕ) × (R : List Rec) × (F s ≡ accept c p m R) × (k ≡ need R) × (length w < need R)
+  pub no_room : (s w : List ℕ) {p k l : ℕ} {w₁ : List ℕ} → Says (Refused 7 p k l) w₁ (P s w) → (frame_fits s ≡ true) × (passes ts ≡ true) × (c : Bool) × (m : ℕ) × (R : List Rec) × (F s ≡ accept c p m R) × (k ≡ need R) × (length w < need R)
   -- and always then
-  pub no_room⁻ : (s w : List ℕ) (c : Bool) (p m : ℕ) (R : List Rec) {r : Answer} {w₁ : List ℕ} → frame-fits s ≡ true → passes ts ≡ true → F s ≡ accept c p m R → length w < need R → Says r w₁ (P s w) → (r ≡ Refused 7 p (need R) 0) × (w₁ ≡ w)
+  pub no_room⁻ : (s w : List ℕ) (c : Bool) (p m : ℕ) (R : List Rec) {r : Answer} {w₁ : List ℕ} → frame_fits s ≡ true → passes ts ≡ true → F s ≡ accept c p m R → length w < need R → Says r w₁ (P s w) → (r ≡ Refused 7 p (need R) 0) × (w₁ ≡ w)
   -- the reach is inside the frame, of an answer and of a refusal
   pub within : (s w : List ℕ) {c : Bool} {p m k : ℕ} {w₁ : List ℕ} → Says (Accepted c p m k) w₁ (P s w) → p ≤ length s * 8
   pub within⁻ : (s w : List ℕ) {n p k l : ℕ} {w₁ : List ℕ} → Says (Refused n p k l) w₁ (P s w) → p ≤ length s * 8

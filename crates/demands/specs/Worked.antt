@@ -2,8 +2,8 @@
 use Rattle.std.specs.Prelude.{◌≡◌, cond, List, [], ℕ, ◌-◌, ◌*◌, length, replicate, eqb}
 use Rattle.x691.specs.Types.{extent}
 use Rattle.x691.specs.Encoding.{width}
-use Rattle.atn.specs.Entries.{parse-pdus}
-use Rattle.atn.specs.Worked.{Question, range, field, count_of, length_of, small-octets, frame, told, records-of, without-words, zeros, Written, bits, is, bad, other, raw-bytes, raw-place, small_bytes, lent, enters, of_answer, told_in, counted}
+use Rattle.atn.specs.Entries.{parse_pdus}
+use Rattle.atn.specs.Worked.{Question, range, field, count_of, length_of, small_octets, frame, told, records_of, without_words, zeros, Written, bits, is, bad, other, raw_bytes, raw_place, small_bytes, lent, enters, of_answer, told_in, counted}
 use Rattle.cursor.specs.declared.place.Cursor.{Cursor}
 use Rattle.cursor.specs.declared.place.Got.{Got}
 use Rattle.field_ranges.specs.declared.table.Range.{Range}
@@ -33,16 +33,16 @@ abbrev pub Only : Question → Written → Type 0
 -- `field_ranges::table::Range::width`
 Only (range lo hi) a = (r : Range) (n : ℕ) → r.lo ≡ lo → r.hi ≡ hi → n ≡ width_of r → bits n ≡ a
 -- `ranged_numbers::ranged`
-Only (field lo hi r) a = (k : ℕ) (g : Got) → lowest k ≡ lo → highest k ≡ hi → Ranged k (raw-bytes r) (from (raw-bytes r) (raw-place (width (extent lo hi)))) g → of_got g ≡ a
+Only (field lo hi r) a = (k : ℕ) (g : Got) → lowest k ≡ lo → highest k ≡ hi → Ranged k (raw_bytes r) (from (raw_bytes r) (raw_place (width (extent lo hi)))) g → of_got g ≡ a
 -- `character_strings::size`
-Only (count_of lo hi r) a = (k : ℕ) (g : Got) → lowest k ≡ lo → highest k ≡ hi → Sized k (raw-bytes r) (from (raw-bytes r) (raw-place (width (hi - lo)))) g → of_got g ≡ a
+Only (count_of lo hi r) a = (k : ℕ) (g : Got) → lowest k ≡ lo → highest k ≡ hi → Sized k (raw_bytes r) (from (raw_bytes r) (raw_place (width (hi - lo)))) g → of_got g ≡ a
 -- `length_determinants::length`
 Only (length_of s) a = (l : Measured) → Measures s (from s 0) l → found l.c.why l.c.marks l.count ≡ a
 -- `length_determinants::small`, behind the mark that its caller makes
-Only (small-octets cs) a = (g : Got) → Smalls (small_bytes cs) (marked (from (small_bytes cs) 7) 2) g → of_got g ≡ a
+Only (small_octets cs) a = (g : Got) → Smalls (small_bytes cs) (marked (from (small_bytes cs) 7) 2) g → of_got g ≡ a
 -- the entries
 Only (frame e s) a = (r : Answer) (w : List ℕ) → Says r w (enters e s lent) → of_answer (answer_of r) ≡ a
 Only (told e t s) a = (r : Answer) (w : List ℕ) → Says r w (enters e s lent) → told_in t (answer_of r) w ≡ a
-Only (records-of e s) a = (r : Answer) (w : List ℕ) → Says r w (enters e s lent) → counted (answer_of r) ≡ a
-Only (without-words e s) a = (r : Answer) (w : List ℕ) → Says r w (enters e s []) → of_answer (answer_of r) ≡ a
-Only (zeros n x y d) a = (r : Answer) (w : List ℕ) → Says r w (parse-pdus (replicate n 0) d (replicate x 0) (replicate y 0) lent) → of_answer (answer_of r) ≡ a
+Only (records_of e s) a = (r : Answer) (w : List ℕ) → Says r w (enters e s lent) → counted (answer_of r) ≡ a
+Only (without_words e s) a = (r : Answer) (w : List ℕ) → Says r w (enters e s []) → of_answer (answer_of r) ≡ a
+Only (zeros n x y d) a = (r : Answer) (w : List ℕ) → Says r w (parse_pdus (replicate n 0) d (replicate x 0) (replicate y 0) lent) → of_answer (answer_of r) ≡ a

@@ -11,21 +11,21 @@ kind_by t u =
     1
     (cond (eqb t tags.speed)
     2
-    (cond (eqb t tags.speed-type)
-    (cond (eqb u tags.speed-type) 4 3)
+    (cond (eqb t tags.speed_type)
+    (cond (eqb u tags.speed_type) 4 3)
     (cond (eqb t tags.level)
     5
     (cond (eqb t tags.degrees)
     6
     (cond (eqb t tags.frequency)
     7
-    (cond (eqb t tags.code-digit)
+    (cond (eqb t tags.code_digit)
     8
     (cond (eqb t tags.traffic_type)
     9
     (cond (eqb t tags.clearance_type)
     10
-    (cond (eqb t tags.error-information)
+    (cond (eqb t tags.error_information)
     11
     (cond (eqb t tags.facility_function)
     12

@@ -1,9 +1,8 @@
 -- Elements passed over: what the walk would be without words.
 use mathlib.Core.Path.{◌≡◌, refl}
 use mathlib.Core.List.{List, [], ◌∷◌}
-use Prim.Native.Nat.{ℕ, zero, suc, ◌+◌, ◌-◌, ◌*◌, ◌≤◌, ◌<◌}
+use Prim.Native.Nat.{ℕ, ◌+◌, ◌-◌, ◌*◌, ◌≤◌, ◌<◌}
 use native.Mathlib.Omega.{arith}
-use native.Mathlib.Nat.{add-zero}
 use lib.ListN.{length, get_or}
 use Rattle.x691.specs.Bits.{bit_of, uint}
 use Rattle.x691.specs.Encoding.{width}
@@ -15,11 +14,10 @@ use Rattle.cursor.specs.Place.{put, got, Pulls, Takes, went, stopped}
 use Rattle.records.specs.Space.{space, size}
 use Rattle.records.specs.Told.{Told}
 use Rattle.records.proofs.Telling.{told_none, told_unwritten}
-use Rattle.runs.specs.Runs.{Runs}
 use Rattle.runs.proofs.RunLaws.{runs_stayed, runs_within}
 use Rattle.argument_values.specs.Arguments.{argument_body}
 use Rattle.passed_arguments.specs.Passed.{Passed}
-use Rattle.elements.specs.Elements.{element_at, elements_at}
+use Rattle.elements.specs.Elements.{elements_at}
 use Rattle.elements.specs.Unlisted.{Fails}
 use Rattle.elements.proofs.ElementLaws.{argument-told, element_outside, element-read, Walking, walking_begun, walking_on}
 

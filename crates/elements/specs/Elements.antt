@@ -7,7 +7,7 @@ use Rattle.atn.specs.Reading.{Ans, times, read}
 use Rattle.atn.specs.Tags as tag
 
 abbrev pub element_format : List ℕ → Fmt
-element_format table = element (choice tag.element-index (elements table))
+element_format table = element (choice tag.element_index (elements table))
 
 -- the argument that the byte k of a table names, of the element number i
 unfoldable pub argument_at : ℕ → ℕ → List ℕ → ℕ → ℕ → Ans

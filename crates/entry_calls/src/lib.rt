@@ -1,4 +1,6 @@
 // The call of an entry that a case names.
+#![tactic(auto)]
+
 ghost use Rattle.answers.specs.Says.{Says};
 ghost use Rattle.entry_calls.specs.Calls.{outcome};
 

@@ -1,4 +1,6 @@
 // Any entry, with any tables and room: a case a line in, its answer a line out. tools/differential/README.md has the form of both. CASES.md says where the answers in the file `stdout` are from.
+#![tactic(auto)]
+
 ghost use Rattle.std.specs.Prelude.{◌≤◌, length};
 ghost use Rattle.line_flow.specs.Flow.{Runs};
 

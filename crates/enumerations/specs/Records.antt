@@ -10,5 +10,5 @@ name_recs t v n = rec t n v.value v.second v.at ∷ []
 
 abbrev pub triple_recs : Triple → ℕ → List Rec
 triple_recs v n =
-    rec tag.speed-type n v.first.value v.first.second v.first.at ∷ rec tag.speed-type n v.second.value v.second.second v.second.at
-    ∷ rec tag.speed-type n v.third.value v.third.second v.third.at ∷ []
+    rec tag.speed_type n v.first.value v.first.second v.first.at ∷ rec tag.speed_type n v.second.value v.second.second v.second.at
+    ∷ rec tag.speed_type n v.third.value v.third.second v.third.at ∷ []

@@ -3,7 +3,7 @@
 #![tactic(auto)]
 
 ghost use Rattle.std.specs.Prelude.{◌≡◌};
-ghost use Rattle.field_ranges.specs.Rows.{speed-type, traffic_type, clearance_type, error-information, facility_function};
+ghost use Rattle.field_ranges.specs.Rows.{speed_type, traffic_type, clearance_type, error_information, facility_function};
 ghost use Rattle.field_ranges.specs.Ranges.{Listed};
 ghost use Rattle.enumerations.specs.Readers.{Names, Triples};
 
@@ -52,7 +52,7 @@ fn read_name(s: &[u8], c: Cursor, range: Range) -> NameAt
 }
 
 pub fn read_speed_type(s: &[u8], c: Cursor) -> NameAt
-    ensures { Names speed-type s.now c result }
+    ensures { Names speed_type s.now c result }
 {
     read_name(s, c, SPEED_TYPE)
 }
@@ -70,7 +70,7 @@ pub fn read_clearance_type(s: &[u8], c: Cursor) -> NameAt
 }
 
 pub fn read_error_information(s: &[u8], c: Cursor) -> NameAt
-    ensures { Names error-information s.now c result }
+    ensures { Names error_information s.now c result }
 {
     read_name(s, c, ERROR_INFORMATION)
 }

@@ -22,20 +22,20 @@ minutes = 5
 abbrev pub msg_id : ℕ
 msg_id = 6
 
-abbrev pub latitude-thousandths : ℕ
-latitude-thousandths = 7
+abbrev pub latitude_thousandths : ℕ
+latitude_thousandths = 7
 
-abbrev pub latitude-degrees : ℕ
-latitude-degrees = 8
+abbrev pub latitude_degrees : ℕ
+latitude_degrees = 8
 
 abbrev pub hundredths : ℕ
 hundredths = 9
 
-abbrev pub longitude-thousandths : ℕ
-longitude-thousandths = 10
+abbrev pub longitude_thousandths : ℕ
+longitude_thousandths = 10
 
-abbrev pub longitude-degrees : ℕ
-longitude-degrees = 11
+abbrev pub longitude_degrees : ℕ
+longitude_degrees = 11
 
 abbrev pub degrees_0 : ℕ
 degrees_0 = 12
@@ -85,11 +85,11 @@ frequency_1 = 26
 abbrev pub frequency_2 : ℕ
 frequency_2 = 27
 
-abbrev pub code-digit : ℕ
-code-digit = 28
+abbrev pub code_digit : ℕ
+code_digit = 28
 
-abbrev pub speed-type : ℕ
-speed-type = 29
+abbrev pub speed_type : ℕ
+speed_type = 29
 
 abbrev pub traffic_type : ℕ
 traffic_type = 30
@@ -97,8 +97,8 @@ traffic_type = 30
 abbrev pub clearance_type : ℕ
 clearance_type = 31
 
-abbrev pub error-information : ℕ
-error-information = 32
+abbrev pub error_information : ℕ
+error_information = 32
 
 abbrev pub facility_function : ℕ
 facility_function = 33
@@ -109,23 +109,23 @@ procedure = 34
 abbrev pub runway : ℕ
 runway = 35
 
-abbrev pub runway-side : ℕ
-runway-side = 36
+abbrev pub runway_side : ℕ
+runway_side = 36
 
-abbrev pub user_abort-reason : ℕ
-user_abort-reason = 37
+abbrev pub user_abort_reason : ℕ
+user_abort_reason = 37
 
-abbrev pub provider_abort-reason : ℕ
-provider_abort-reason = 38
+abbrev pub provider_abort_reason : ℕ
+provider_abort_reason = 38
 
 abbrev pub forward_response : ℕ
 forward_response = 39
 
-abbrev pub cm-abort-reason : ℕ
-cm-abort-reason = 40
+abbrev pub cm_abort_reason : ℕ
+cm_abort_reason = 40
 
-abbrev pub cm-forward_response : ℕ
-cm-forward_response = 41
+abbrev pub cm_forward_response : ℕ
+cm_forward_response = 41
 
 abbrev pub abort_diagnostic : ℕ
 abort_diagnostic = 42
@@ -136,20 +136,20 @@ ae_qualifier = 43
 abbrev pub ap_version : ℕ
 ap_version = 44
 
-abbrev pub fix-size : ℕ
-fix-size = 45
+abbrev pub fix_size : ℕ
+fix_size = 45
 
-abbrev pub navaid-size : ℕ
-navaid-size = 46
+abbrev pub navaid_size : ℕ
+navaid_size = 46
 
-abbrev pub airport-size : ℕ
-airport-size = 47
+abbrev pub airport_size : ℕ
+airport_size = 47
 
-abbrev pub procedure-size : ℕ
-procedure-size = 48
+abbrev pub procedure_size : ℕ
+procedure_size = 48
 
-abbrev pub transition-size : ℕ
-transition-size = 49
+abbrev pub transition_size : ℕ
+transition_size = 49
 
 abbrev pub flight_size : ℕ
 flight_size = 50
@@ -157,8 +157,8 @@ flight_size = 50
 abbrev pub route_size : ℕ
 route_size = 51
 
-abbrev pub channel-size : ℕ
-channel-size = 52
+abbrev pub channel_size : ℕ
+channel_size = 52
 
 abbrev pub selector_size : ℕ
 selector_size = 53
@@ -175,5 +175,5 @@ legs = 56
 abbrev pub applications : ℕ
 applications = 57
 
-abbrev pub release-reason : ℕ
-release-reason = 58
+abbrev pub release_reason : ℕ
+release_reason = 58

@@ -10,10 +10,10 @@ use lib.Dec.{leb}
 use borrow.Author.Tests.{leb-true}
 use Rattle.x691.specs.Bits.{bit_of}
 use Rattle.atn.specs.Format.{Fmt}
-use Rattle.atn.specs.Entries.{table_fits, direction-fits}
+use Rattle.atn.specs.Entries.{table_fits, direction_fits}
 use Rattle.record_lists.specs.Kinds.{span_tag, kind_of}
 use Rattle.record_lists.specs.Write.{write}
-use Rattle.record_lists.specs.Message.{records_of, bytes_needed, bytes_of, Written, written, refused, list-fits, bits_of_message, settled, write-message}
+use Rattle.record_lists.specs.Message.{records_of, bytes_needed, bytes_of, Written, written, refused, list_fits, bits_of_message, settled, write_message}
 use Rattle.record_lists.proofs.Messages.{nothing}
 
 -- what holds where n bits are written and the lent bytes are out' afterwards
@@ -23,8 +23,8 @@ pub record Accepted (k d : ℕ) (down up W s out : List ℕ) (n : ℕ) (out' : L
   pub kind : kind_of k d down up ≡ some format
   -- the tests before the list is looked at
   pub tables : table_fits down && table_fits up ≡ true
-  pub direction : direction-fits d ≡ true
-  pub list : list-fits W s ≡ true
+  pub direction : direction_fits d ≡ true
+  pub list : list_fits W s ≡ true
   -- the message's bits
   pub bits : List ℕ
   pub lists : write span_tag format (bit_of s) (length s * 8) (records_of W) ≡ some bits
@@ -54,22 +54,22 @@ settled_inv (some B) out {n} {out'} h = go (leb (bytes_needed B) (length out)) r
 
 -- from the bits to the format and the list
 bits_inv : (o : Option Fmt) (W s : List ℕ) {B : List ℕ} → bits_of_message o W s ≡ some B
-    → (f : Fmt) × (o ≡ some f) × (list-fits W s ≡ true) × (write span_tag f (bit_of s) (length s * 8) (records_of W) ≡ some B)
+    → (f : Fmt) × (o ≡ some f) × (list_fits W s ≡ true) × (write span_tag f (bit_of s) (length s * 8) (records_of W) ≡ some B)
 unfolding bits_of_message
 bits_inv none W s h = nothing h
-bits_inv (some f) W s {B} h = go (list-fits W s) refl h
+bits_inv (some f) W s {B} h = go (list_fits W s) refl h
   where
-    go : (t : Bool) → list-fits W s ≡ t → cond t (write span_tag f (bit_of s) (length s * 8) (records_of W)) none ≡ some B
-        → (g : Fmt) × (some f ≡ some g) × (list-fits W s ≡ true) × (write span_tag g (bit_of s) (length s * 8) (records_of W) ≡ some B)
+    go : (t : Bool) → list_fits W s ≡ t → cond t (write span_tag f (bit_of s) (length s * 8) (records_of W)) none ≡ some B
+        → (g : Fmt) × (some f ≡ some g) × (list_fits W s ≡ true) × (write span_tag g (bit_of s) (length s * 8) (records_of W) ≡ some B)
     go true e q = (f, refl, e, q)
     go false e q = nothing q
 
 -- from the answer to all of it
-pub accepted : (k d : ℕ) (down up W s out : List ℕ) {n : ℕ} {out' : List ℕ} → write-message k d down up W s out ≡ (written n, out') → Accepted k d down up W s out n out'
-unfolding write-message
-accepted k d down up W s out {n} {out'} h = go (table_fits down && table_fits up) (direction-fits d) refl refl h
+pub accepted : (k d : ℕ) (down up W s out : List ℕ) {n : ℕ} {out' : List ℕ} → write_message k d down up W s out ≡ (written n, out') → Accepted k d down up W s out n out'
+unfolding write_message
+accepted k d down up W s out {n} {out'} h = go (table_fits down && table_fits up) (direction_fits d) refl refl h
   where
-    go : (t u : Bool) → table_fits down && table_fits up ≡ t → direction-fits d ≡ u
+    go : (t u : Bool) → table_fits down && table_fits up ≡ t → direction_fits d ≡ u
         → ◌≡◌ {A = Written × List ℕ} (cond t (cond u (settled (bits_of_message (kind_of k d down up) W s) out) (refused 3 0, out)) (refused 2 0, out)) (written n, out')
         → Accepted k d down up W s out n out'
     go true true e g q =

@@ -11,7 +11,7 @@ use Rattle.atn.specs.Entries.{pdus}
 use Rattle.record_lists.specs.Kinds.{span_tag, kind_of}
 use Rattle.record_lists.specs.Plain.{Plain}
 use Rattle.record_lists.specs.Exceptions.{aircraft_spares, ground_spares}
-use Rattle.record_lists.specs.Message.{records_of, bytes_of, write-message}
+use Rattle.record_lists.specs.Message.{records_of, bytes_of, write_message}
 use Rattle.record_lists.specs.Message as message
 use Rattle.record_lists.proofs.Exceptions.{aircraft_pdus_spare, ground_pdus_spare}
 use Rattle.record_lists.proofs.Messages.{some_is, clear_kind}
@@ -28,7 +28,7 @@ module _ (k d : ℕ) (down up W s out : List ℕ) {n : ℕ} {out' : List ℕ} wh
       (record { val = p.0.val; in_range = p.0.in_range; count = a.count ∙ ap (λ (z : List ℕ). length z) c; front = front_bytes a ∙ ap (λ (z : List ℕ). bytes_of z) c }, p.1)
 
   -- whatever is written encodes a plain value
-  pub plainly : write-message k d down up W s out ≡ (message.written n, out') → (f : Fmt) → kind_of k d down up ≡ some f → (x : Encodes f n out') × Plain f x.val (0, 0)
+  pub plainly : write_message k d down up W s out ≡ (message.written n, out') → (f : Fmt) → kind_of k d down up ≡ some f → (x : Encodes f n out') × Plain f x.val (0, 0)
   plainly h f i =
       let a = accepted k d down up W s out h in
       let e : a.format ≡ f = some_is (sym a.kind ∙ i) in
@@ -36,10 +36,10 @@ module _ (k d : ℕ) (down up W s out : List ℕ) {n : ℕ} {out' : List ℕ} wh
 
 -- of CPDLC's messages: no default acknowledgment is written out, and no empty constrained data
 module _ (down up W s out : List ℕ) {n : ℕ} {out' : List ℕ} where
-  pub aircraft_leaves_out : write-message 0 0 down up W s out ≡ (message.written n, out') → (x : Encodes (aircraft_pdus down) n out') × aircraft_spares down x.val
+  pub aircraft_leaves_out : write_message 0 0 down up W s out ≡ (message.written n, out') → (x : Encodes (aircraft_pdus down) n out') × aircraft_spares down x.val
   unfolding kind_of pdus
   aircraft_leaves_out h = let x = plainly 0 0 down up W s out h (aircraft_pdus down) refl in (x.0, aircraft_pdus_spare down x.0.val x.0.in_range x.1)
 
-  pub ground_leaves_out : write-message 0 1 down up W s out ≡ (message.written n, out') → (x : Encodes (ground_pdus down up) n out') × ground_spares down up x.val
+  pub ground_leaves_out : write_message 0 1 down up W s out ≡ (message.written n, out') → (x : Encodes (ground_pdus down up) n out') × ground_spares down up x.val
   unfolding kind_of pdus
   ground_leaves_out h = let x = plainly 0 1 down up W s out h (ground_pdus down up) refl in (x.0, ground_pdus_spare down up x.0.val x.0.in_range x.1)

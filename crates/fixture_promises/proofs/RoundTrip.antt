@@ -12,11 +12,11 @@ use Rattle.x691.specs.Bits.{bit_of, Spells}
 use Rattle.x691.specs.Range.{All}
 use Rattle.atn.specs.Format.{Fmt, type_of}
 use Rattle.atn.specs.Reading.{Rec}
-use Rattle.atn.specs.Entries.{accept, read_frame, frame-fits, table_fits, direction-fits}
+use Rattle.atn.specs.Entries.{accept, read_frame, frame_fits, table_fits, direction_fits}
 use Rattle.record_lists.specs.Items.{look, inside}
 use Rattle.record_lists.specs.Kinds.{span_tag, kind_of}
 use Rattle.record_lists.specs.Write.{write}
-use Rattle.record_lists.specs.Message.{records_of, bytes_needed, bytes_of, write-message}
+use Rattle.record_lists.specs.Message.{records_of, bytes_needed, bytes_of, write_message}
 use Rattle.record_lists.specs.Message as message
 use Rattle.record_lists.proofs.Written.{write_inv, written}
 use Rattle.record_lists.proofs.Messages.{clear_kind}
@@ -48,7 +48,7 @@ pub record ReadBack (k d : ℕ) (down up W s out : List ℕ) (n : ℕ) (out' : L
   pub kind : kind_of k d down up ≡ some format
   -- the tables and the direction are such as every reading takes
   pub tables : table_fits down && table_fits up ≡ true
-  pub direction : direction-fits d ≡ true
+  pub direction : direction_fits d ≡ true
   -- the message's bits, n of them, each 0 or 1
   pub bits : List ℕ
   pub count : n ≡ length bits
@@ -64,11 +64,11 @@ pub record ReadBack (k d : ℕ) (down up W s out : List ℕ) (n : ℕ) (out' : L
   pub same : look span_tag (bit_of (bytes_of bits)) recs ≡ look span_tag (bit_of s) (records_of W)
   pub within : inside span_tag (length (bytes_of bits) * 8) recs ≡ true
   -- they are a frame of a length that is read
-  pub limit : most format ≤ 65536 → frame-fits (bytes_of bits) ≡ true
+  pub limit : most format ≤ 65536 → frame_fits (bytes_of bits) ≡ true
 
 -- whatever is written is read back
-pub written_read : (k d : ℕ) (down up W s out : List ℕ) {n : ℕ} {out' : List ℕ} → write-message k d down up W s out ≡ (message.written n, out') → ReadBack k d down up W s out n out'
-unfolding frame-fits bytes_needed
+pub written_read : (k d : ℕ) (down up W s out : List ℕ) {n : ℕ} {out' : List ℕ} → write_message k d down up W s out ≡ (message.written n, out') → ReadBack k d down up W s out n out'
+unfolding frame_fits bytes_needed
 written_read k d down up W s out {n} {out'} h =
     let a = accepted k d down up W s out h in
     let f : Fmt = a.format in

@@ -3,7 +3,7 @@ use mathlib.Core.Path.{◌≡◌, sym, ap, ◌∙◌}
 use mathlib.Core.List.{List}
 use Prim.Native.Nat.{ℕ}
 use native.Mathlib.Omega.{arith}
-use Rattle.record_lists.specs.Message.{write-message}
+use Rattle.record_lists.specs.Message.{write_message}
 use Rattle.record_lists.specs.Message as message
 use Rattle.fixture_writer.specs.declared.Written.{Written}
 use Rattle.fixture_writer.specs.declared.Written.TheVariants.{Wrote, Refused}
@@ -22,7 +22,7 @@ answers_same (Refused n k) (Wrote m) e = absurd (let y : ◌≡◌ {A = ℕ} 1 0
 answers_same (Refused n k) (Refused m l) e = cc
 
 -- any two answers that the contract allows are equal, and so are the bytes
-pub written_one : (k d : ℕ) (down up W s X : List ℕ) {r q : Written} {Y Z : List ℕ} → Says r Y (write-message k d down up W s X) → Says q Z (write-message k d down up W s X) → (r ≡ q) × (Y ≡ Z)
+pub written_one : (k d : ℕ) (down up W s X : List ℕ) {r q : Written} {Y Z : List ℕ} → Says r Y (write_message k d down up W s X) → Says q Z (write_message k d down up W s X) → (r ≡ q) × (Y ≡ Z)
 written_one k d down up W s X {r} {q} x y =
     let e = x ∙ sym y in
     (answers_same r q (ap (λ (o : message.Written × List ℕ). o.0) e), ap (λ (o : message.Written × List ℕ). o.1) e)

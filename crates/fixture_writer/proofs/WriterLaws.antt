@@ -13,14 +13,14 @@ use Rattle.x691.specs.Types.{Value}
 use Rattle.x691.specs.Encoding.{encode}
 use Rattle.x691.specs.Range.{InRange}
 use Rattle.atn.specs.Format.{Fmt, type_of}
-use Rattle.atn.specs.Entries.{table_fits, direction-fits, pdus, cm_of}
+use Rattle.atn.specs.Entries.{table_fits, direction_fits, pdus, cm_of}
 use Rattle.atn.specs.Messages.{acse}
 use Rattle.bit_writer.specs.Put.{set_bits}
 use Rattle.record_lists.specs.Items.{Item, inside}
 use Rattle.record_lists.specs.Kinds.{span_tag, kind_of}
 use Rattle.record_lists.specs.Parse.{Got, no, got, parse}
 use Rattle.record_lists.specs.Write.{encoded, write}
-use Rattle.record_lists.specs.Message.{records_of, bytes_needed, bytes_of, list-fits, bits_of_message, settled, write-message}
+use Rattle.record_lists.specs.Message.{records_of, bytes_needed, bytes_of, list_fits, bits_of_message, settled, write_message}
 use Rattle.record_lists.specs.Message as message
 use Rattle.record_lists.proofs.Forth.{forth}
 use Rattle.record_lists.proofs.Longest.{longest}
@@ -48,19 +48,19 @@ use Rattle.fixture_writer.specs.Says.{front, refused_of, answer_of, Says}
 
 module _ (k d : ℕ) (down up W s X : List ℕ) where
   abbrev all : message.Written × List ℕ
-  all = write-message k d down up W s X
+  all = write_message k d down up W s X
 
   pub says_2 : (r : Written) (t : Bool) → t ≡ (table_fits down && table_fits up) → t ≡ false → r ≡ refused_of 2 0 → Says r X all
-  unfolding write-message answer_of
+  unfolding write_message answer_of
   says_2 r t e h q = rw (q, sym e ∙ h)
 
   pub says_3 : (r : Written) (t : Bool) → t ≡ (table_fits down && table_fits up) → t ≡ true → 1 < d → r ≡ refused_of 3 0 → Says r X all
-  unfolding write-message answer_of direction-fits
+  unfolding write_message answer_of direction_fits
   says_3 r t e h l q = rw (q, sym e ∙ h, lt-leb d 1 l)
 
   -- behind these tests
   past : (t : Bool) → t ≡ (table_fits down && table_fits up) → t ≡ true → d ≤ 1 → all ≡ settled (bits_of_message (kind_of k d down up) W s) X
-  unfolding write-message direction-fits
+  unfolding write_message direction_fits
   past t e h l = rw (sym e ∙ h, le-leb d 1 l)
 
   no_kind : 2 < k → kind_of k d down up ≡ none
@@ -90,16 +90,16 @@ module _ (k d : ℕ) (down up W s X : List ℕ) where
     unfolding bits_of_message
     says_8_kind r h q = nothing_8 r (rw (no_kind h)) q
 
-    no_fit : k ≤ 2 → list-fits W s ≡ false → bits_of_message (kind_of k d down up) W s ≡ none
+    no_fit : k ≤ 2 → list_fits W s ≡ false → bits_of_message (kind_of k d down up) W s ≡ none
     unfolding bits_of_message
     no_fit h l = let f = a_kind k h in rw (f.1, l)
 
     pub says_8_fives : (r : Written) → k ≤ 2 → (length W % 5 ≡ 0 → ⊥) → r ≡ refused_of 8 0 → Says r X all
-    unfolding list-fits
+    unfolding list_fits
     says_8_fives r h n q = nothing_8 r (no_fit h (rw (ne_eqb (length W % 5) 0 n))) q
 
     pub says_8_many : (r : Written) → k ≤ 2 → 4294967296 ≤ length W / 5 → r ≡ refused_of 8 0 → Says r X all
-    unfolding list-fits
+    unfolding list_fits
     says_8_many r h n q = nothing_8 r (no_fit h (rw (le-ltb (length W / 5) 4294967296 n) (off (eqb (length W % 5) 0)))) q
       where
         off : (b : Bool) → (b && false) && ltb (length s) 72057594037927936 ≡ false
@@ -107,7 +107,7 @@ module _ (k d : ℕ) (down up W s X : List ℕ) where
         off false = refl
 
     pub says_8_bytes : (r : Written) → k ≤ 2 → 72057594037927936 ≤ length s → r ≡ refused_of 8 0 → Says r X all
-    unfolding list-fits
+    unfolding list_fits
     says_8_bytes r h n q = nothing_8 r (no_fit h (rw (le-ltb (length s) 72057594037927936 n) (off (eqb (length W % 5) 0 && ltb (length W / 5) 4294967296)))) q
       where
         off : (b : Bool) → b && false ≡ false
@@ -121,8 +121,8 @@ module _ (k d : ℕ) (down up W s X : List ℕ) where
       pub kind-of : kind_of k d down up ≡ some f
       kind-of = (a_kind k kl).1
 
-      fits : list-fits W s ≡ true
-      unfolding list-fits
+      fits : list_fits W s ≡ true
+      unfolding list_fits
       fits = rw (eq-eqb (length W % 5) 0 fives, lt-ltb (length W / 5) 4294967296 few, lt-ltb (length s) 72057594037927936 bytes)
 
       records : rest W m 0 ≡ records_of W
@@ -232,7 +232,7 @@ lent-list W m s b e f g h i = record { records = omega (arith, e); few = omega (
 pub root_ready : (k d r : ℕ) (down up W : List ℕ) (m : ℕ) (s : List ℕ) → r ≡ root_of k d → 1 ≤ length down → length down ≤ 256 → 1 ≤ length up → length up ≤ 256 → Lent W m s
     → Ready table down up W m s × (29 < 2 ^ 32) × (sure_at 29 table down up r ≡ true)
 root_ready k d r down up W m s e a b c f l =
-    (record { nodes = few-nodes; down-some = a; down-few = b; up-some = c; up-few = f; list = l }, omega arith, ap (λ (j : ℕ). sure_at depth table down up j) e ∙ sure k d down up b f)
+    (record { nodes = few-nodes; down_some = a; down_few = b; up_some = c; up_few = f; list = l }, omega arith, ap (λ (j : ℕ). sure_at depth table down up j) e ∙ sure k d down up b f)
 
 pub root-part : (k d r : ℕ) (down up : List ℕ) (f : Fmt) (s : ℕ → ℕ) (W : List ℕ) (m : ℕ) (p : Pen) (X : List ℕ) (q : Pen) (Y : List ℕ) → r ≡ root_of k d → kind_of k d down up ≡ some f → Part (format_at 29 table down up r) (0, 0) s W m p X q Y → Part f (0, 0) s W m p X q Y
 root-part k d r down up f s W m p X q Y e h a =

@@ -6,7 +6,7 @@ ghost use Rattle.std.proofs.Math.Option.{some};
 ghost use Rattle.x691.specs.Bits.{bit_of};
 ghost use Rattle.atn.specs.Format.{Fmt};
 ghost use Rattle.record_lists.specs.Kinds.{kind_of};
-ghost use Rattle.record_lists.specs.Message.{write-message};
+ghost use Rattle.record_lists.specs.Message.{write_message};
 ghost use Rattle.pens.specs.Writes.{Part};
 ghost use Rattle.write_leaves.specs.Lent.{Lent};
 ghost use Rattle.fixture_writer.specs.Says.{Says, front, refused_of};
@@ -44,7 +44,7 @@ pub fn write_message(
     src: &[u8],
     out: &mut [u8],
 ) -> Written
-    ensures { Says result out.new (write-message kind direction down.now up.now words.now src.now out.old) }
+    ensures { Says result out.new (write_message kind direction down.now up.now words.now src.now out.old) }
 {
     if !tables_fit(down, up) {
         return refused(2, 0);

@@ -1,5 +1,5 @@
 -- The forward message: its body from the header and the carried data, and what is left of it where it fails.
-use mathlib.Core.Path.{◌≡◌, refl, sym, ap, ◌∙◌}
+use mathlib.Core.Path.{◌≡◌, refl}
 use mathlib.Core.Bool.{Bool, true, false, cond}
 use mathlib.Core.List.{List, [], ◌∷◌, ◌++◌, append-nil}
 use Prim.Native.Nat.{ℕ, zero, suc, ◌+◌, ◌-◌, ◌*◌, ◌%◌, ◌≤◌, ◌<◌}
@@ -9,9 +9,9 @@ use lib.Dec.{eqb}
 use borrow.Author.Tests.{eqb-true, eqb-false, ne_eqb}
 use Rattle.x691.specs.Bits.{bit_of}
 use Rattle.x691.specs.Encoding.{width, width_in, highest, count}
-use Rattle.atn.specs.Format.{Fmt, Alts, Flds, seq, choice, lax, end, ◌⨾◌, none_left, ◌∥◌, out, bad, lack, quit}
+use Rattle.atn.specs.Format.{Fmt, Alts, seq, choice, lax, end, ◌⨾◌, none_left, ◌∥◌, out, bad, lack, quit}
 use Rattle.atn.specs.Messages.{message_data, carried}
-use Rattle.atn.specs.Reading.{Rec, rec, Ctx, Ans, ok, then, mark, softly, pass_over, laxly, flags, read, read_fields, read_choice}
+use Rattle.atn.specs.Reading.{Rec, rec, Ans, ok, then, mark, softly, pass_over, flags, read, read_fields, read_choice}
 use Rattle.atn.specs.Tags as tag
 use Rattle.atn.proofs.Elements.{data_placeless}
 use Rattle.atn.proofs.Shift.{placeless}
@@ -19,7 +19,7 @@ use Rattle.cursor.specs.declared.place.Cursor.{Cursor}
 use Rattle.cursor.specs.declared.place.Got.{Got}
 use Rattle.cursor.specs.Place.{Inside, Pulls, Led, Reads}
 use Rattle.cursor.specs.Place as place
-use Rattle.cursor.proofs.Laws.{reads_same, reads_then, reads_ok, marked-nil, pull-from}
+use Rattle.cursor.proofs.Laws.{reads_then, reads_ok, marked-nil, pull-from}
 use Rattle.length_determinants.proofs.LengthLaws.{known_some}
 use Rattle.cursor.proofs.FormatLaws.{all_read, reads_plain, reads_going, takes_back}
 use Rattle.records.specs.Told.{Told}
@@ -30,7 +30,6 @@ use Rattle.runs.specs.declared.At.{At}
 use Rattle.runs.specs.Runs.{Ran, failed, Runs}
 use Rattle.runs.specs.Windows.{closed_why, closed}
 use Rattle.runs.proofs.FrameLaws.{soft_went, soft_out, soft_bad}
-use Rattle.runs.proofs.RunLaws.{runs_within}
 use Rattle.runs.proofs.AttemptLaws.{lax_ends}
 use Rattle.message.specs.Data.{data_at}
 use Rattle.forward_headers.specs.declared.HeaderAt.{HeaderAt}
@@ -65,7 +64,7 @@ module _ (down up : List ℕ) where
   carried_at v s u p = read (carried (carried_table v down up)) (0, 0) (bit_of s) u p
 
   abbrev body_at : List ℕ → ℕ → ℕ → Ans
-  body_at s u p = read (seq (header ⨾ choice tag.carried-direction directions ⨾ end)) (0, 0) (bit_of s) u p
+  body_at s u p = read (seq (header ⨾ choice tag.carried_direction directions ⨾ end)) (0, 0) (bit_of s) u p
 
   direction-read : (v : ℕ) (s : List ℕ) (u p : ℕ) → v < 2 → carried_at v s u p ≡ read_choice directions v (0, 0) (bit_of s) u p
   unfolding carried_table read_choice
@@ -77,7 +76,7 @@ module _ (down up : List ℕ) where
     abbrev told : List Rec
     told = rec 21 0 g.v 0 h.c.at ∷ R
 
-    direction_choice : Inside s h.c → Reads (λ u p. read (choice tag.carried-direction directions) (0, 0) (bit_of s) u p) s h.c e told
+    direction_choice : Inside s h.c → Reads (λ u p. read (choice tag.carried_direction directions) (0, 0) (bit_of s) u p) s h.c e told
     unfolding read width width_in highest count
     direction_choice j =
         pull-from 1 g (λ a v u q. then (ok q (rec 21 0 v 0 a ∷ []) 0) λ r. read_choice directions v (0, 0) (bit_of s) u r) pulls
@@ -89,10 +88,10 @@ module _ (down up : List ℕ) where
     body_read =
         record {
           led = λ i.
-              let last : Reads (λ u p. then (read (choice tag.carried-direction directions) (0, 0) (bit_of s) u p) (λ q. ok q [] 0)) s h.c e (told ++ []) =
-              reads_then (λ u p. read (choice tag.carried-direction directions) (0, 0) (bit_of s) u p) (λ u q. ok q [] 0) (direction_choice (takes_back x.takes i).0) (reads_ok [] 0 (marked-nil e)) in
-              (reads_plain (header ⨾ choice tag.carried-direction directions ⨾ end) (0, 0) refl refl
-              (reads_then (λ u p. read header (0, 0) (bit_of s) u p) (λ u p. then (read (choice tag.carried-direction directions) (0, 0) (bit_of s) u p) (λ q. ok q [] 0)) (x.takes.took (0, 0)) (rw (append-nil told) at last))).led i;
+              let last : Reads (λ u p. then (read (choice tag.carried_direction directions) (0, 0) (bit_of s) u p) (λ q. ok q [] 0)) s h.c e (told ++ []) =
+              reads_then (λ u p. read (choice tag.carried_direction directions) (0, 0) (bit_of s) u p) (λ u q. ok q [] 0) (direction_choice (takes_back x.takes i).0) (reads_ok [] 0 (marked-nil e)) in
+              (reads_plain (header ⨾ choice tag.carried_direction directions ⨾ end) (0, 0) refl refl
+              (reads_then (λ u p. read header (0, 0) (bit_of s) u p) (λ u p. then (read (choice tag.carried_direction directions) (0, 0) (bit_of s) u p) (λ q. ok q [] 0)) (x.takes.took (0, 0)) (rw (append-nil told) at last))).led i;
         }
 
 ---------------------------------------------------------------- what is left of it

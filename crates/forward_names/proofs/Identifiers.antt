@@ -11,14 +11,13 @@ use Rattle.x691.specs.Types.{Value}
 use Rattle.x691.specs.Encoding.{index, encode}
 use Rattle.x691.specs.Range.{InRange}
 use Rattle.atn.specs.Format.{type_of}
-use Rattle.atn.specs.Entries.{Reply, accept, ran_out, badly, unsupplied, read_frame, frame-fits, table_fits}
+use Rattle.atn.specs.Entries.{Reply, accept, ran_out, badly, unsupplied, read_frame, frame_fits, table_fits}
 use Rattle.atn.specs.Messages.{forward, ground_pdus}
 use Rattle.atn.specs.Reading.{Rec}
 use Rattle.atn.specs.Told.{tell, tell_fields, tell_pick}
-use Rattle.atn.specs.Demands.{Message}
 use Rattle.atn.proofs.Demands.{clean-message}
 use Rattle.forward_names.specs.declared.Named.{Named}
-use Rattle.forward_names.specs.Names.{nameless, name_in, name_of, forward-name}
+use Rattle.forward_names.specs.Names.{nameless, name_in, name_of, forward_name}
 use Rattle.forward_names.specs.Forwarded.{uplink, identifier_of, Forwards, name_for, Identifies}
 use Rattle.forward_names.proofs.HeaderLaws.{identified, forward-message}
 
@@ -46,9 +45,9 @@ module _ (s down up : List ℕ) where
       go (inr (inr (inr (inr (inr (inr c)))))) g b l e = absurd c
 
   -- a name is given only for a clean forward message
-  pub named : (forward-name s down up).number ≡ 0 → Identifies s down up (forward-name s down up)
-  unfolding forward-name name_of
-  named h = go (frame-fits s) (table_fits down && table_fits up) (read_frame (ground_pdus down up) s) refl h
+  pub named : (forward_name s down up).number ≡ 0 → Identifies s down up (forward_name s down up)
+  unfolding forward_name name_of
+  named h = go (frame_fits s) (table_fits down && table_fits up) (read_frame (ground_pdus down up) s) refl h
     where
       go : (t u : Bool) (r : Reply) → read_frame (ground_pdus down up) s ≡ r → (outcome t u r).number ≡ 0 → Identifies s down up (outcome t u r)
       go false u r q z = absurd (omega arith)
@@ -61,12 +60,12 @@ module _ (s down up : List ℕ) where
       go true true (unsupplied p) q z = absurd (omega arith)
 
   -- and for each in a frame that fits, with tables that do: "without a name" is said of none
-  module _ (fits : frame-fits s ≡ true) (tables : (table_fits down && table_fits up) ≡ true) where
-    pub each-named : {p : ℕ} {v : Value (type_of (forward down up))} → Forwards s down up p v → forward-name s down up ≡ name_for p (identifier_of down up v)
-    unfolding forward-name name_of
+  module _ (fits : frame_fits s ≡ true) (tables : (table_fits down && table_fits up) ≡ true) where
+    pub each-named : {p : ℕ} {v : Value (type_of (forward down up))} → Forwards s down up p v → forward_name s down up ≡ name_for p (identifier_of down up v)
+    unfolding forward_name name_of
     each-named {p} {v} f = rw (fits, tables, f.clean) (told-name p v f.in_range)
 
     -- by the bits of the index, 4 being the forward message
-    pub index-named : {p : ℕ} {R : List Rec} → read_frame (ground_pdus down up) s ≡ accept false p 0 R → uint (bit_of s) 1 3 ≡ 4 → (forward-name s down up).number ≡ 0
-    unfolding forward-name name_of
+    pub index-named : {p : ℕ} {R : List Rec} → read_frame (ground_pdus down up) s ≡ accept false p 0 R → uint (bit_of s) 1 3 ≡ 4 → (forward_name s down up).number ≡ 0
+    unfolding forward_name name_of
     index-named {p} {R} clean i = rw (fits, tables, clean) (ap (λ (n : Named). n.number) (forward-message down up s clean i))

@@ -6,27 +6,27 @@ use Prim.Native.Nat.{ℕ, zero, suc, ◌+◌, ◌*◌, ◌/◌, ◌%◌, ◌≤�
 use native.Mathlib.Omega.{arith}
 use lib.ListN.{length}
 use borrow.Author.Tests.{le-leb, lt-leb}
-use Rattle.atn.specs.Entries.{Reply, accept, ran_out, badly, unsupplied, read_frame, pdus, frame-fits, table_fits}
+use Rattle.atn.specs.Entries.{Reply, accept, ran_out, badly, unsupplied, read_frame, pdus, frame_fits, table_fits}
 use Rattle.atn.specs.Messages.{ground_pdus}
 use Rattle.atn.specs.Reading.{Rec}
 use Rattle.verdicts.specs.declared.Verdict.{Verdict}
 use Rattle.verdicts.specs.Verdicts.{verdict_of}
 use Rattle.forward_names.specs.declared.Named.{Named}
-use Rattle.forward_names.specs.Names.{turned, nameless, name_in, name_of, forward-name}
+use Rattle.forward_names.specs.Names.{turned, nameless, name_in, name_of, forward_name}
 
 ---------------------------------------------------------------- the tests
 
 module _ (s down up : List ℕ) where
-  pub long : 65536 < length s → nameless 1 0 ≡ forward-name s down up
-  unfolding forward-name frame-fits
+  pub long : 65536 < length s → nameless 1 0 ≡ forward_name s down up
+  unfolding forward_name frame_fits
   long h = rw (lt-leb (length s) 65536 h)
 
-  pub no_tables : length s ≤ 65536 → (table_fits down && table_fits up) ≡ false → nameless 2 0 ≡ forward-name s down up
-  unfolding forward-name frame-fits
+  pub no_tables : length s ≤ 65536 → (table_fits down && table_fits up) ≡ false → nameless 2 0 ≡ forward_name s down up
+  unfolding forward_name frame_fits
   no_tables h t = rw (le-leb (length s) 65536 h, t)
 
-  pub reads : {r : Named} → length s ≤ 65536 → (table_fits down && table_fits up) ≡ true → r ≡ name_of (read_frame (ground_pdus down up) s) → r ≡ forward-name s down up
-  unfolding forward-name frame-fits
+  pub reads : {r : Named} → length s ≤ 65536 → (table_fits down && table_fits up) ≡ true → r ≡ name_of (read_frame (ground_pdus down up) s) → r ≡ forward_name s down up
+  unfolding forward_name frame_fits
   reads h t e = e ∙ rw (le-leb (length s) 65536 h, t)
 
 ---------------------------------------------------------------- the verdict

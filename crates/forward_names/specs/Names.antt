@@ -1,7 +1,7 @@
 -- The name in a frame: "for each forward message that the uplink reading calls clean, its aircraft identifier".
 use Rattle.std.specs.Prelude.{true, false, cond, ◌&&◌, List, [], ◌∷◌, ℕ, zero, suc, eqb}
 use Rattle.atn.specs.Reading.{Rec, rec}
-use Rattle.atn.specs.Entries.{Reply, accept, ran_out, badly, unsupplied, read_frame, frame-fits, table_fits}
+use Rattle.atn.specs.Entries.{Reply, accept, ran_out, badly, unsupplied, read_frame, frame_fits, table_fits}
 use Rattle.atn.specs.Messages.{ground_pdus}
 use Rattle.atn.specs.Tags as tag
 use Rattle.forward_names.specs.declared.Named.{Named}
@@ -34,5 +34,5 @@ name_of (badly p) = nameless 5 p
 name_of (unsupplied p) = nameless 6 p
 
 -- refusals 1 and 2 come first
-unfoldable pub forward-name : List ℕ → List ℕ → List ℕ → Named
-forward-name s down up = cond (frame-fits s) (cond (table_fits down && table_fits up) (name_of (read_frame (ground_pdus down up) s)) (nameless 2 0)) (nameless 1 0)
+unfoldable pub forward_name : List ℕ → List ℕ → List ℕ → Named
+forward_name s down up = cond (frame_fits s) (cond (table_fits down && table_fits up) (name_of (read_frame (ground_pdus down up) s)) (nameless 2 0)) (nameless 1 0)

@@ -1,9 +1,11 @@
 // The name in a frame: the aircraft identifier of a forward message that the uplink reading calls clean.
+#![tactic(auto)]
+
 ghost use Rattle.std.specs.Prelude.{◌≡◌, false, List, ℕ, ◌≤◌, length};
 ghost use Rattle.atn.specs.Reading.{Rec};
 ghost use Rattle.atn.specs.Entries.{accept, read_frame};
 ghost use Rattle.atn.specs.Messages.{ground_pdus};
-ghost use Rattle.forward_names.specs.Names.{turned, name_in, forward-name};
+ghost use Rattle.forward_names.specs.Names.{turned, name_in, forward_name};
 
 use answers::LONGEST_FRAME;
 use cpdlc_frames::try_frame;
@@ -30,7 +32,7 @@ pub struct Named {
 const FORWARD: u64 = 4;
 
 pub fn forward_name(frame: &[u8], down: &[u8], up: &[u8]) -> Named
-    ensures { result ≡ forward-name frame.now down.now up.now }
+    ensures { result ≡ forward_name frame.now down.now up.now }
 {
     if LONGEST_FRAME < frame.len() {
         return no_name(1, 0, 0);

@@ -39,10 +39,10 @@ channel-recs (suc (suc zero)) s v n h = absurd (omega arith)
 channel-recs (suc (suc (suc k))) s v n h = refl
 
 module _ {s : List ℕ} {c : Cursor} (g : Got) (p : Pulls s c 2 g) where
-  pub frequency-number : (r : Got) → g.v < 3 → Ranged (rows.frequency_0 + g.v) s g.c r
+  pub frequency_number : (r : Got) → g.v < 3 → Ranged (rows.frequency_0 + g.v) s g.c r
       → Frequencies s c (record { frequency = record { kind = g.v; kind_at = c.at; number = r.v; number_at = g.c.at; channel = record { from = 0; at = 0; len = 0 } }; c = r.c })
   unfolding frequency_recs lowest highest width width_in encoding.highest count
-  frequency-number r l h =
+  frequency_number r l h =
       let y : Takes message.frequency s c r.c (λ n. rec 57 n g.v 0 c.at ∷ rec 58 n r.v 0 g.c.at ∷ []) = takes_row 57 58 rows.frequency_0 3 behind g p r l h in
       record {
         reads = record { took = λ x. rw (number_recs g.v s _ x.0 l) (y.took x) };

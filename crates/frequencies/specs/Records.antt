@@ -9,9 +9,9 @@ use Rattle.frequencies.specs.declared.Frequency.{Frequency}
 -- behind the kind: a number, or the digits of a channel
 abbrev pub number_or_channel : ℕ → List ℕ → Frequency → ℕ → List Rec
 number_or_channel (suc (suc (suc k))) s v n = channel_recs tag.satellite_channel tag.satellite_channel_x691 n s v.channel
-number_or_channel (suc (suc zero)) s v n = rec tag.frequency-number n v.number 0 v.number_at ∷ []
-number_or_channel (suc zero) s v n = rec tag.frequency-number n v.number 0 v.number_at ∷ []
-number_or_channel zero s v n = rec tag.frequency-number n v.number 0 v.number_at ∷ []
+number_or_channel (suc (suc zero)) s v n = rec tag.frequency_number n v.number 0 v.number_at ∷ []
+number_or_channel (suc zero) s v n = rec tag.frequency_number n v.number 0 v.number_at ∷ []
+number_or_channel zero s v n = rec tag.frequency_number n v.number 0 v.number_at ∷ []
 
 unfoldable pub frequency_recs : List ℕ → Frequency → ℕ → List Rec
 frequency_recs s v n = rec tag.frequency n v.kind 0 v.kind_at ∷ number_or_channel v.kind s v n

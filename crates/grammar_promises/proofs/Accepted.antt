@@ -13,7 +13,7 @@ use Rattle.x691.proofs.BitLaws.{bit_of-lt}
 use Rattle.atn.specs.Format.{Fmt, null, out, bad, lack, quit}
 use Rattle.atn.specs.Reading.{Rec, rec, Ctx, Ans, ok, past, stop, read, read_choice}
 use Rattle.atn.specs.Messages.{date_time_group, constrained_data, arguments, argument, no_reader, argument_of, elements, message_data, atc_message, protected_message, aircraft_pdus, ground_pdus, cm_aircraft, cm_ground, acse}
-use Rattle.atn.specs.Entries.{Reply, stopped, reply, read_frame, or_else, flat, need, frame-fits, table_fits, Test, decide, enter, pdus, parse-pdus, parse-apdu, cm_of, parse-cm, parse-acse-apdu}
+use Rattle.atn.specs.Entries.{Reply, stopped, reply, read_frame, or_else, flat, need, frame_fits, table_fits, Test, decide, enter, pdus, parse_pdus, parse_apdu, cm_of, parse_cm, parse_acse_apdu}
 use Rattle.atn.proofs.Inverse.{both}
 use Rattle.records.specs.Space.{size}
 use Rattle.record_views.specs.View.{whole, records_from, fetched}
@@ -175,8 +175,8 @@ formed-flat R h = rw (records-flat R, h, eq-eqb (length (flat R) % 5) 0 (omega (
 decide-formed : (ts : List Test) (r : Reply) (w : List ℕ) → (Passed ts → Heard r) → Formed (decide ts r w)
 decide-formed ts r w f = decide-good _ (λ x. formed x ≡ true) (λ R h. formed-flat R h) ts r w f
 
-frame-short : (s : List ℕ) → frame-fits s ≡ true → Fits s
-unfolding frame-fits
+frame-short : (s : List ℕ) → frame_fits s ≡ true → Fits s
+unfolding frame_fits
 frame-short s h = let l = leb-true (length s) 65536 h in omega arith
 
 table-short : (T : List ℕ) → table_fits T ≡ true → Short T
@@ -184,18 +184,18 @@ unfolding table_fits
 table-short T h = let l = leb-true (length T) 256 (both (leb 1 (length T)) (leb (length T) 256) h).1 in omega arith
 
 -- whatever the frame, the direction, the tables and the lent words
-pub parse-pdus-formed : (s : List ℕ) (d : ℕ) (down up w : List ℕ) → Formed (parse-pdus s d down up w)
-unfolding parse-pdus enter
+pub parse-pdus-formed : (s : List ℕ) (d : ℕ) (down up w : List ℕ) → Formed (parse_pdus s d down up w)
+unfolding parse_pdus enter
 parse-pdus-formed s d down up w = decide-formed _ _ w λ p. let t = both (table_fits down) (table_fits up) p.1.0 in good-pdus d down up (table-short down t.0) (table-short up t.1) s (frame-short s p.0)
 
-pub parse-apdu-formed : (s down up w : List ℕ) → Formed (parse-apdu s down up w)
-unfolding parse-apdu enter
+pub parse-apdu-formed : (s down up w : List ℕ) → Formed (parse_apdu s down up w)
+unfolding parse_apdu enter
 parse-apdu-formed s down up w = decide-formed _ _ w λ p. let t = both (table_fits down) (table_fits up) p.1.0 in good-apdu down up (table-short down t.0) (table-short up t.1) s (frame-short s p.0)
 
-pub parse-cm-formed : (s : List ℕ) (d : ℕ) (w : List ℕ) → Formed (parse-cm s d w)
-unfolding parse-cm enter
+pub parse-cm-formed : (s : List ℕ) (d : ℕ) (w : List ℕ) → Formed (parse_cm s d w)
+unfolding parse_cm enter
 parse-cm-formed s d w = decide-formed _ _ w λ p. good-cm d s (frame-short s p.0)
 
-pub parse-acse-apdu-formed : (s w : List ℕ) → Formed (parse-acse-apdu s w)
-unfolding parse-acse-apdu enter
+pub parse-acse-apdu-formed : (s w : List ℕ) → Formed (parse_acse_apdu s w)
+unfolding parse_acse_apdu enter
 parse-acse-apdu-formed s w = decide-formed _ _ w λ p. good-acse s (frame-short s p.0)

@@ -196,8 +196,8 @@ module _ (track : Bool) (E : Scope → List State → Exits)
         ends_behind _ _ _ s (at + flags fs) [] _ _ (in_fallible track E ρ s A X _ (follows_fields b h fs u ρ Γ x k e at (at + flags fs) l A s g))
     follows b h (choice t fs) u ρ Γ x k e at l A s g =
         let w = width (highest (alternatives_of fs)) in
-        ends_pull _ _ _ s b h e (choice_fails track E (eqb t tag.element-index) ρ A s g (E Γ (each (λ σ. step Γ t (value 0 256 0) σ) A)) (goes_alts track E t 0 fs Γ A)) at w _ λ i _ _.
-        ends_behind _ _ _ s (at + w) _ _ _ (choices (eqb t tag.element-index) t fs u b h ρ Γ x k e at (at + w) l A s g i (λ v. follows_alts b h fs v t 0 i i (omega arith) ρ Γ x k e at (at + w) l A s g))
+        ends_pull _ _ _ s b h e (choice_fails track E (eqb t tag.element_index) ρ A s g (E Γ (each (λ σ. step Γ t (value 0 256 0) σ) A)) (goes_alts track E t 0 fs Γ A)) at w _ λ i _ _.
+        ends_behind _ _ _ s (at + w) _ _ _ (choices (eqb t tag.element_index) t fs u b h ρ Γ x k e at (at + w) l A s g i (λ v. follows_alts b h fs v t 0 i i (omega arith) ρ Γ x k e at (at + w) l A s g))
     follows b h (many lo hi f) u ρ Γ x k e at l A s g =
         let n = counter f in
         let w = width (hi - lo) in

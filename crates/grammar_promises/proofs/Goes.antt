@@ -193,7 +193,7 @@ module _ (track : Bool) (E : Scope → List State → Exits) where
     goes (choice t fs) Γ A =
         let X : Exits = E Γ (each (λ σ. step Γ t (value 0 256 0) σ) A) in
         let Y : Exits = goes_alts t 0 fs Γ A in
-        chosen (eqb t tag.element-index) A X Y
+        chosen (eqb t tag.element_index) A X Y
     goes (many lo hi f) Γ A =
         let k : ℕ = suc (counter f) in
         let w : ℕ = width (hi - lo) in

@@ -42,7 +42,7 @@ abbrev mutual
   Lent (ext f g) = Lent f × Lent g
   Lent (seq fs) = LentFields fs
   Lent (loose fs) = LentFields fs
-  Lent (choice t fs) = LentChoice (eqb t tag.element-index) (Lends fs) (LentAlts fs)
+  Lent (choice t fs) = LentChoice (eqb t tag.element_index) (Lends fs) (LentAlts fs)
   Lent (many lo hi f) = Lent f
   Lent (inner f) = Lent f
   Lent (soft m r f) = Lent f
@@ -79,7 +79,7 @@ unfoldable mutual
   free (ext f g) = free f && free g
   free (seq fs) = free_fields fs
   free (loose fs) = free_fields fs
-  free (choice t fs) = not (eqb t tag.element-index) && free_alts fs
+  free (choice t fs) = not (eqb t tag.element_index) && free_alts fs
   free (many lo hi f) = free f
   free (inner f) = free f
   free (soft m r f) = free f
@@ -117,7 +117,7 @@ mutual
   lent-free (ext f g) h = let z = both (free f) (free g) h in (lent-free f z.0, lent-free g z.1)
   lent-free (seq fs) h = lent_fields fs h
   lent-free (loose fs) h = lent_fields fs h
-  lent-free (choice t fs) h = let z = both (not (eqb t tag.element-index)) (free_alts fs) h in rw (not-true (eqb t tag.element-index) z.0) (lent_alts fs z.1)
+  lent-free (choice t fs) h = let z = both (not (eqb t tag.element_index)) (free_alts fs) h in rw (not-true (eqb t tag.element_index) z.0) (lent_alts fs z.1)
   lent-free (many lo hi f) h = lent-free f h
   lent-free (inner f) h = lent-free f h
   lent-free (soft m r f) h = lent-free f h

@@ -1,18 +1,17 @@
 -- What a character more makes of what was taken of a text.
-use mathlib.Core.Path.{◌≡◌, refl, sym, ◌∙◌, ap}
+use mathlib.Core.Path.{◌≡◌, refl, sym, ◌∙◌}
 use mathlib.Core.Bool.{Bool, true, false, cond, true≢false}
 use mathlib.Core.List.{List, [], ◌∷◌, ◌++◌, append-nil, append_assoc}
 use mathlib.Core.Option.{Option, none, some}
-use Prim.Native.Nat.{ℕ, suc, ◌+◌, ◌*◌, ◌/◌, ◌%◌, ◌≤◌, ◌<◌}
+use Prim.Native.Nat.{ℕ, ◌+◌, ◌*◌, ◌/◌, ◌%◌, ◌≤◌, ◌<◌}
 use native.Mathlib.Numerals.{add-one}
 use native.Mathlib.Omega.{arith}
 use lib.Dec.{ltb}
 use lib.ListN.{length, take, get_or, set, length-append, length-set}
 use lib.Seq.{take_all, take-suc, take-suc-set, take-set-le, get_or-set_same, append_snoc}
 use borrow.Author.Tests.{lt-ltb, le-ltb, ltb-true, ltb-false}
-use Rattle.hexadecimal.specs.Hex.{digit, before, pair, octets, Decodes}
+use Rattle.hexadecimal.specs.Hex.{digit, before, pair, octets}
 use Rattle.hexadecimal.specs.Stretches.{behind, waiting, going_on, SoFar}
-use Rattle.hexadecimal.specs.declared.Decoded.{Decoded}
 use Rattle.hexadecimal.specs.declared.stretches.Digits.{Digits}
 
 -- both characters are digits

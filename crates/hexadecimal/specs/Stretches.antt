@@ -1,5 +1,5 @@
 -- A text in hexadecimal that comes in stretches, and whose octets are put into a frame as they come.
-use Rattle.std.specs.Prelude.{◌≡◌, true, false, cond, List, [], ◌∷◌, ◌++◌, ℕ, ◌+◌, ◌*◌, ◌/◌, ltb, length, take, get_or}
+use Rattle.std.specs.Prelude.{◌≡◌, false, cond, List, [], ◌∷◌, ◌++◌, ℕ, ◌+◌, ◌*◌, ◌/◌, ltb, length, take, get_or}
 use Rattle.std.proofs.Math.Option.{Option, none, some}
 use Rattle.hexadecimal.specs.declared.stretches.Digits.{Digits}
 use Rattle.hexadecimal.specs.Hex.{digit, pair, octets}

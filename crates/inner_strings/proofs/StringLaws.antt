@@ -28,12 +28,12 @@ use Rattle.inner_strings.specs.Strings.{Lacks, Has, Strings}
 ---------------------------------------------------------------- where it stands
 
 pub string_stops : {s : List ℕ} {c d : Cursor} {l : Measured} → Measures s c l → Passes l.c l.count d → (d.why ≡ 0 → ⊥) → Lacks s c d
-string_stops {d = d} {l} measures passes h = record { length-read = l; behind = d; measures = measures; passes = passes; stops = h; same = λ _. refl; off = λ z. absurd (h z) }
+string_stops {d = d} {l} measures passes h = record { length_read = l; behind = d; measures = measures; passes = passes; stops = h; same = λ _. refl; off = λ z. absurd (h z) }
 
 string_off : {s : List ℕ} {c d e : Cursor} {l : Measured} → Measures s c l → Passes l.c l.count d → d.why ≡ 0 → e ≡ stopped d 4 0 → length s * 8 < l.c.at + l.count → Lacks s c e
 unfolding stopped
 string_off {d = d} {l = l} measures passes goes q o =
-    record { length-read = l; behind = d; measures = measures; passes = passes; stops = λ z. (let y = rw (q, goes) at z in omega arith); same = λ h. absurd (h goes); off = λ _. o }
+    record { length_read = l; behind = d; measures = measures; passes = passes; stops = λ z. (let y = rw (q, goes) at z in omega arith); same = λ h. absurd (h goes); off = λ _. o }
 
 -- a place that the frame holds is small
 pub near : {t : Bool} (p n : ℕ) → n ≤ 65536 → t ≡ leb p (n * 8) → t ≡ true → p ≤ 524288
@@ -47,7 +47,7 @@ module _ {s : List ℕ} {c d : Cursor} {l : Measured} {t : Bool} (measures : Mea
   string-held q =
       let i = leb-true d.at (length s * 8) (sym p ∙ q) in
       let e = passes.moved goes in
-      record { length-read = l; measures = measures; passes = passes; goes = goes; first_byte = refl; last_byte = rw e refl; bits = refl; ordered = omega arith; held = omega arith }
+      record { length_read = l; measures = measures; passes = passes; goes = goes; first_byte = refl; last_byte = rw e refl; bits = refl; ordered = omega arith; held = omega arith }
 
 module _ {s : List ℕ} {c d : Cursor} {r : Inner} where
   pub lost : r ≡ Lost d → Strings s c r → Lacks s c d

@@ -8,23 +8,23 @@ use Rattle.inner_strings.specs.declared.Inner.TheVariants.{Lost, Found}
 
 -- the reading stops before the string's end; where it would not, the frame does not hold the string, to which no cursor in the frame comes
 pub record Lacks (s : List ℕ) (c d : Cursor) : Type 0 where
-  pub length-read : Measured
+  pub length_read : Measured
   pub behind : Cursor
-  pub measures : Measures s c length-read
-  pub passes : Passes length-read.c length-read.count behind
+  pub measures : Measures s c length_read
+  pub passes : Passes length_read.c length_read.count behind
   pub stops : d.why ≡ 0 → ⊥
   pub same : (behind.why ≡ 0 → ⊥) → d ≡ behind
-  pub off : behind.why ≡ 0 → length s * 8 < length-read.c.at + length-read.count
+  pub off : behind.why ≡ 0 → length s * 8 < length_read.c.at + length_read.count
 
 -- its bits stand in the bytes from..to, where they are the window, and d stands behind them
 pub record Has (s : List ℕ) (c : Cursor) (from to : ℕ) (window d : Cursor) : Type 0 where
-  pub length-read : Measured
-  pub measures : Measures s c length-read
-  pub passes : Passes length-read.c length-read.count d
+  pub length_read : Measured
+  pub measures : Measures s c length_read
+  pub passes : Passes length_read.c length_read.count d
   pub goes : d.why ≡ 0
-  pub first_byte : from ≡ length-read.c.at / 8
-  pub last_byte : to ≡ (length-read.c.at + length-read.count + 7) / 8
-  pub bits : window ≡ record { at = length-read.c.at % 8; end = length-read.c.at % 8 + length-read.count; why = 0; marks = d.marks }
+  pub first_byte : from ≡ length_read.c.at / 8
+  pub last_byte : to ≡ (length_read.c.at + length_read.count + 7) / 8
+  pub bits : window ≡ record { at = length_read.c.at % 8; end = length_read.c.at % 8 + length_read.count; why = 0; marks = d.marks }
   -- what a caller needs to lend them
   pub ordered : from ≤ to
   pub held : to ≤ length s

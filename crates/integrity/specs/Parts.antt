@@ -6,4 +6,4 @@ use Rattle.atn.specs.Reading.{Ans, read}
 use Rattle.atn.specs.Tags as tag
 
 unfoldable pub integrity : List ℕ → ℕ → ℕ → Ans
-integrity s e p = read (soft 7 false (any_span tag.integrity-check 1)) (0, 0) (bit_of s) e p
+integrity s e p = read (soft 7 false (any_span tag.integrity_check 1)) (0, 0) (bit_of s) e p

@@ -26,17 +26,17 @@ ranging = seq (message.published ⨾ message.degrees ⨾ message.unsupplied ⨾ 
 
 -- a leg behind the record of its place
 abbrev pub route_information : Fmt
-route_information = choice tag.route-information (message.published ∥ message.latlon ∥ many 2 2 bearing ∥ ranging ∥ message.ia5 tag.route_designator 2 7 ∥ none_left)
+route_information = choice tag.route_information (message.published ∥ message.latlon ∥ many 2 2 bearing ∥ ranging ∥ message.ia5 tag.route_designator 2 7 ∥ none_left)
 
 unfoldable pub bearing_recs : List ℕ → Bearing → ℕ → List Rec
-bearing_recs s v n = published_recs s v.place n ++ quantity_recs tag.degrees tag.degrees-number v.degrees n
+bearing_recs s v n = published_recs s v.place n ++ quantity_recs tag.degrees tag.degrees_number v.degrees n
 
 -- by the place where the leg starts, which is its index's; what cannot be read has no records
 unfoldable pub leg_recs : List ℕ → ℕ → Leg → ℕ → List Rec
-leg_recs s at (Place v) n = rec tag.route-information n 0 0 at ∷ published_recs s v n
-leg_recs s at (Coordinates v) n = rec tag.route-information n 1 0 at ∷ pair_recs v n
-leg_recs s at (Between v w) n = rec tag.route-information n 2 0 at ∷ (bearing_recs s v n ++ bearing_recs s w n)
-leg_recs s at (Designator v) n = rec tag.route-information n 4 0 at ∷ text_recs tag.route_designator n s v
+leg_recs s at (Place v) n = rec tag.route_information n 0 0 at ∷ published_recs s v n
+leg_recs s at (Coordinates v) n = rec tag.route_information n 1 0 at ∷ pair_recs v n
+leg_recs s at (Between v w) n = rec tag.route_information n 2 0 at ∷ (bearing_recs s v n ++ bearing_recs s w n)
+leg_recs s at (Designator v) n = rec tag.route_information n 4 0 at ∷ text_recs tag.route_designator n s v
 leg_recs s at Unread n = []
 
 -- its texts can be told

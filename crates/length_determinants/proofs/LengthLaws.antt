@@ -14,7 +14,7 @@ use Rattle.x691.specs.Bits.{bit_of, uint}
 use Rattle.per.proofs.Laws.{uint-below, uint-below-wide, uint-split}
 use Rattle.atn.specs.Format.{out, bad, any_span, skipped, small}
 use Rattle.atn.specs.Reading.{Rec, rec, Ans, ok, stop, then, fork, guard, or, word, spanned, unless, mark, pull, long, fragment, lengths, length_then, read}
-use Rattle.atn.specs.Reading.{short as shortForm}
+use Rattle.atn.specs.Reading.{short as short_form}
 use Rattle.cursor.specs.declared.place.Cursor.{Cursor}
 use Rattle.cursor.specs.declared.place.Got.{Got}
 use Rattle.length_determinants.specs.declared.Head.{Head}
@@ -152,7 +152,7 @@ module _ (s : List ℕ) (k : ℕ → ℕ → ℕ → Ans) where
 
   -- each part of a length stands behind the one before
   forms-lengths : (g u p : ℕ) → Behind s 1 (any_form g) u p ≡ lengths (suc g) (bit_of s) u p (λ n q. k n u q)
-  unfolding lengths shortForm long fragment
+  unfolding lengths short_form long fragment
   forms-lengths g u p =
       let e₁ : p + 1 + 7 ≡ p + 8 = omega arith in
       let e₂ : p + 1 + 1 ≡ p + 2 = omega arith in

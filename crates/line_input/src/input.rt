@@ -144,7 +144,7 @@ pub fn either(a: bool, b: bool) -> bool
 }
 
 // Where the first such byte stands from `from` on, or `to` where none does before it.
-pub fn find(space: &[u8], from: usize, to: usize, byte: u8) -> usize
+pub(crate) fn find(space: &[u8], from: usize, to: usize, byte: u8) -> usize
     requires { (from ≤ to) × (to ≤ length space.now) }
     ensures { (from ≤ result) × (result ≤ to) }
 {

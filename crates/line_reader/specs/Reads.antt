@@ -1,8 +1,8 @@
 -- A number and a line, as they were read.
-use Rattle.std.specs.Prelude.{◌≡◌, Bool, cond, List, ℕ, ◌^◌, ◌<◌, length}
+use Rattle.std.specs.Prelude.{◌≡◌, cond, List, ℕ, ◌^◌, ◌<◌, length}
 use Rattle.std.proofs.Math.Option.{Option, none, some}
 use Rattle.book_entries.specs.declared.Entry.{Entry}
-use Rattle.book_lines.specs.Lines.{onward, entry}
+use Rattle.book_lines.specs.Lines.{onward}
 use Rattle.line_reader.specs.declared.Numeral.{Numeral}
 use Rattle.line_reader.specs.declared.Line.{Line}
 use Rattle.line_reader.specs.declared.Line.TheVariants.{Good, Bad}

@@ -7,9 +7,8 @@ use native.Mathlib.Omega.{arith}
 use lib.ListN.{length}
 use Rattle.atn.specs.Reading.{Rec}
 use Rattle.atn.specs.Messages.{aircraft_pdus, ground_pdus, cm_ground, cm_aircraft, acse}
-use Rattle.atn.specs.Entries.{Reply, accept, ran_out, badly, unsupplied, or_else, after_out, after_bad, read_frame, decide, enter, pdus, cm_of, parse-pdus, parse-apdu, parse-cm, parse-acse-apdu}
+use Rattle.atn.specs.Entries.{Reply, accept, ran_out, badly, unsupplied, or_else, after_out, after_bad, read_frame, decide, enter, pdus, cm_of, parse_pdus, parse_apdu, parse_cm, parse_acse_apdu}
 use Rattle.atn.proofs.Outcomes.{early}
-use Rattle.record_bounds.specs.Most.{most}
 use Rattle.record_bounds.proofs.Fewer.{clean-few}
 use Rattle.record_bounds.proofs.Messages.{pdus-most, cm_ground_most, cm_aircraft_most, acse-most}
 use Rattle.list_checker.specs.declared.entries.Entry.{Entry}
@@ -18,7 +17,7 @@ use Rattle.list_checker.specs.Entered.{entered, tests_of, reading_of}
 use Rattle.list_checker.specs.Checks.{all_tests}
 
 pub tests_and_reading : (s : List ℕ) (e : Entry) (down up w : List ℕ) → entered e down up s w ≡ decide (all_tests s e down up) (reading_of e down up s) w
-unfolding entered tests_of reading_of parse-apdu parse-pdus parse-cm parse-acse-apdu enter
+unfolding entered tests_of reading_of parse_apdu parse_pdus parse_cm parse_acse_apdu enter
 tests_and_reading s Apdu down up w = refl
 tests_and_reading s (Pdus d) down up w = refl
 tests_and_reading s (Cm d) down up w = refl

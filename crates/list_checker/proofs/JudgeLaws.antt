@@ -21,7 +21,7 @@ use Rattle.list_comparison.specs.declared.Checked.TheVariants.{Refused}
 use Rattle.list_comparison.specs.Compared.{compared}
 use Rattle.list_checker.specs.declared.entries.Entry.{Entry}
 use Rattle.list_checker.specs.Entered.{entered, reading_of}
-use Rattle.list_checker.specs.Checks.{held, checked, all_tests, check-list}
+use Rattle.list_checker.specs.Checks.{held, checked, all_tests, check_list}
 use Rattle.list_checker.specs.Judged.{is_full, Fits, Judges}
 use Rattle.list_checker.proofs.EntryLaws.{tests_and_reading, tests_early, reading_few}
 
@@ -101,20 +101,20 @@ module _ (s : List ℕ) (e : Entry) (down up lent : List ℕ) where
       omega arith
 
   module _ (l : List ℕ) where
-    pub said-cut : {p m k : ℕ} {w : List ℕ} → ◌≡◌ {A = Outcome} (accepted true p m k, w) (entered e down up s lent) → Refused 19 ≡ check-list s e down up l
-    unfolding check-list
+    pub said-cut : {p m k : ℕ} {w : List ℕ} → ◌≡◌ {A = Outcome} (accepted true p m k, w) (entered e down up s lent) → Refused 19 ≡ check_list s e down up l
+    unfolding check_list
     said-cut h =
         let x = of_accepted h in
         sym (checked_go tests reply l x.0 ∙ not-clean reply l (λ q R y. let z = sym x.1.replied ∙ y in let b : true ≡ false = cc in let o : ◌≡◌ {A = ℕ} 0 1 = cc in omega arith))
 
-    pub said-marked : {p m k : ℕ} {w : List ℕ} → (m ≡ 0 → ⊥) → ◌≡◌ {A = Outcome} (accepted false p m k, w) (entered e down up s lent) → Refused 19 ≡ check-list s e down up l
-    unfolding check-list
+    pub said-marked : {p m k : ℕ} {w : List ℕ} → (m ≡ 0 → ⊥) → ◌≡◌ {A = Outcome} (accepted false p m k, w) (entered e down up s lent) → Refused 19 ≡ check_list s e down up l
+    unfolding check_list
     said-marked n h =
         let x = of_accepted h in
         sym (checked_go tests reply l x.0 ∙ not-clean reply l (λ q R y. let z = sym x.1.replied ∙ y in n (cc)))
 
-    pub said-clean : {p m k : ℕ} {w : List ℕ} {x : Checked} → m ≡ 0 → ◌≡◌ {A = Outcome} (accepted false p m k, w) (entered e down up s lent) → ((R : List Rec) → take (k * 5) w ≡ flat R → x ≡ compared 1 R l) → x ≡ check-list s e down up l
-    unfolding check-list held need
+    pub said-clean : {p m k : ℕ} {w : List ℕ} {x : Checked} → m ≡ 0 → ◌≡◌ {A = Outcome} (accepted false p m k, w) (entered e down up s lent) → ((R : List Rec) → take (k * 5) w ≡ flat R → x ≡ compared 1 R l) → x ≡ check_list s e down up l
+    unfolding check_list held need
     said-clean {p} {m} {k} {w} z h f =
         let x = of_accepted h in
         let R = x.1.recs in
@@ -123,12 +123,12 @@ module _ (s : List ℕ) (e : Entry) (down up lent : List ℕ) where
         let q : reply ≡ accept false p 0 R = x.1.replied ∙ ap (λ (j : ℕ). accept false p j R) z in
         f R t ∙ sym (checked_go tests reply l x.0 ∙ rw q)
 
-    pub said_early : {n p k j : ℕ} {w : List ℕ} → n ≤ 3 → ◌≡◌ {A = Outcome} (refused n p k j, w) (entered e down up s lent) → Refused n ≡ check-list s e down up l
-    unfolding check-list
+    pub said_early : {n p k j : ℕ} {w : List ℕ} → n ≤ 3 → ◌≡◌ {A = Outcome} (refused n p k j, w) (entered e down up s lent) → Refused n ≡ check_list s e down up l
+    unfolding check_list
     said_early i h = checked_early tests reply lent l (sym (h ∙ tests_and_reading s e down up lent)) i
 
-    pub said-late : {n p k j : ℕ} {w : List ℕ} → 3 < n → (eqb n 7 ≡ true → (q : ℕ) (R : List Rec) → reply ≡ accept false q 0 R → ⊥) → ◌≡◌ {A = Outcome} (refused n p k j, w) (entered e down up s lent) → Refused 19 ≡ check-list s e down up l
-    unfolding check-list
+    pub said-late : {n p k j : ℕ} {w : List ℕ} → 3 < n → (eqb n 7 ≡ true → (q : ℕ) (R : List Rec) → reply ≡ accept false q 0 R → ⊥) → ◌≡◌ {A = Outcome} (refused n p k j, w) (entered e down up s lent) → Refused 19 ≡ check_list s e down up l
+    unfolding check_list
     said-late {n} i unclean h =
         let x = of_refused h i in
         sym (checked_go tests reply l x.0 ∙ (refused-late reply lent x.1).1 l (λ z. unclean (eq-eqb n 7 z)))

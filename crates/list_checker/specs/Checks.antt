@@ -1,6 +1,6 @@
 -- The checker: "yes exactly if the list is the clean reading of that frame"; "refusals 1, 2 and 3 apply first; a frame that is not clean gets refusal 19".
 use Rattle.std.specs.Prelude.{true, false, List, [], ◌∷◌, ℕ, zero, suc}
-use Rattle.atn.specs.Entries.{Reply, accept, ran_out, badly, unsupplied, Test, test, frame-fits}
+use Rattle.atn.specs.Entries.{Reply, accept, ran_out, badly, unsupplied, Test, test, frame_fits}
 use Rattle.list_comparison.specs.declared.Checked.{Checked}
 use Rattle.list_comparison.specs.declared.Checked.TheVariants.{Refused}
 use Rattle.list_comparison.specs.Compared.{compared}
@@ -24,8 +24,8 @@ checked (test false n ∷ ts) r l = Refused n
 
 -- frame, entry, tables: the frame's length is tested first
 abbrev pub all_tests : List ℕ → Entry → List ℕ → List ℕ → List Test
-all_tests s e down up = test (frame-fits s) 1 ∷ tests_of e down up
+all_tests s e down up = test (frame_fits s) 1 ∷ tests_of e down up
 
 -- and list
-unfoldable pub check-list : List ℕ → Entry → List ℕ → List ℕ → List ℕ → Checked
-check-list s e down up l = checked (all_tests s e down up) (reading_of e down up s) l
+unfoldable pub check_list : List ℕ → Entry → List ℕ → List ℕ → List ℕ → Checked
+check_list s e down up l = checked (all_tests s e down up) (reading_of e down up s) l

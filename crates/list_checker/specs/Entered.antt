@@ -1,16 +1,16 @@
 -- The entries by name: what each gives, what it tests behind the frame's length, and its reading.
-use Rattle.std.specs.Prelude.{List, [], ◌∷◌, ℕ}
+use Rattle.std.specs.Prelude.{List, [], ℕ}
 use Rattle.atn.specs.Messages.{aircraft_pdus, ground_pdus, acse}
-use Rattle.atn.specs.Entries.{Reply, or_else, read_frame, Outcome, Test, pdus, pdus_tests, apdu_tests, cm_of, cm_tests, parse-pdus, parse-apdu, parse-cm, parse-acse-apdu}
+use Rattle.atn.specs.Entries.{Reply, or_else, read_frame, Outcome, Test, pdus, pdus_tests, apdu_tests, cm_of, cm_tests, parse_pdus, parse_apdu, parse_cm, parse_acse_apdu}
 use Rattle.list_checker.specs.declared.entries.Entry.{Entry}
 use Rattle.list_checker.specs.declared.entries.Entry.TheVariants.{Apdu, Pdus, Cm, Acse}
 
 -- entry, tables, frame, lent words
 unfoldable pub entered : Entry → List ℕ → List ℕ → List ℕ → List ℕ → Outcome
-entered Apdu down up s w = parse-apdu s down up w
-entered (Pdus d) down up s w = parse-pdus s d down up w
-entered (Cm d) down up s w = parse-cm s d w
-entered Acse down up s w = parse-acse-apdu s w
+entered Apdu down up s w = parse_apdu s down up w
+entered (Pdus d) down up s w = parse_pdus s d down up w
+entered (Cm d) down up s w = parse_cm s d w
+entered Acse down up s w = parse_acse_apdu s w
 
 unfoldable pub tests_of : Entry → List ℕ → List ℕ → List Test
 tests_of Apdu down up = apdu_tests down up

@@ -8,7 +8,7 @@ use Rattle.atn.specs.Entries.{accept}
 use Rattle.list_comparison.specs.declared.Checked.{Checked}
 use Rattle.list_checker.specs.declared.entries.Entry.{Entry}
 use Rattle.list_checker.specs.Entered.{entered, reading_of}
-use Rattle.list_checker.specs.Checks.{check-list}
+use Rattle.list_checker.specs.Checks.{check_list}
 
 -- refused for want of room
 abbrev pub is_full : Answer → Bool
@@ -23,4 +23,4 @@ Fits (Refused n p k j) w = Unit {0}
 -- whichever entry answered so: r is said of the list, if no clean reading was refused for want of room
 pub record Judges (a : Answer) (w l : List ℕ) (r : Checked) : Type 0 where
   pub judges : (s : List ℕ) (e : Entry) (down up lent : List ℕ) → Says a w (entered e down up s lent) → (is_full a ≡ true → (p : ℕ) (R : List Rec) → reading_of e down up s ≡ accept false p 0 R → ⊥)
-      → r ≡ check-list s e down up l
+      → r ≡ check_list s e down up l

@@ -1,6 +1,8 @@
 // Whether a list of records is the clean reading of a frame. The frame is read into words of the checker's own, so that it takes no room.
+#![tactic(auto)]
+
 ghost use Rattle.std.specs.Prelude.{◌≡◌};
-ghost use Rattle.list_checker.specs.Checks.{check-list};
+ghost use Rattle.list_checker.specs.Checks.{check_list};
 ghost use Rattle.list_checker.specs.Judged.{Fits, Judges, is_full};
 
 use answers::Answer;
@@ -15,7 +17,7 @@ const FEW: usize = 240;
 const ENOUGH: usize = 41_620;
 
 pub fn check_list(frame: &[u8], entry: Entry, down: &[u8], up: &[u8], list: &[u64]) -> Checked
-    ensures { result ≡ check-list frame.now entry down.now up.now list.now }
+    ensures { result ≡ check_list frame.now entry down.now up.now list.now }
 {
     let mut words = [0u64; FEW];
     let answer = read(frame, entry, down, up, &mut words);
@@ -27,7 +29,7 @@ pub fn check_list(frame: &[u8], entry: Entry, down: &[u8], up: &[u8], list: &[u6
 
 // With words enough for every clean message.
 fn check_long(frame: &[u8], entry: Entry, down: &[u8], up: &[u8], list: &[u64]) -> Checked
-    ensures { result ≡ check-list frame.now entry down.now up.now list.now }
+    ensures { result ≡ check_list frame.now entry down.now up.now list.now }
 {
     let mut words = [0u64; ENOUGH];
     let answer = read(frame, entry, down, up, &mut words);

@@ -1,15 +1,15 @@
 -- Entries that are there, and those that are still to be put among them.
 use mathlib.Core.Path.{◌≡◌, refl, sym, ap, ◌∙◌}
-use mathlib.Core.Bool.{Bool, true, false, cond, not, ◌&&◌, ◌||◌}
+use mathlib.Core.Bool.{Bool, true, false, cond, not, ◌&&◌}
 use mathlib.Core.List.{List, [], ◌∷◌, ◌++◌}
 use mathlib.Core.Option.{Option, none, some}
-use Prim.Native.Nat.{ℕ, suc, ◌+◌, ◌*◌, ◌/◌, ◌%◌, ◌-◌, ◌≤◌, ◌<◌}
+use Prim.Native.Nat.{ℕ, ◌+◌, ◌*◌, ◌/◌, ◌-◌, ◌≤◌}
 use native.Mathlib.Omega.{arith}
 use lib.Dec.{leb, eqb}
 use lib.ListN.{length, take, drop, replicate}
 use borrow.Author.Tests.{not-true, not-false}
 use Rattle.book_entries.specs.declared.Entry.{Entry}
-use Rattle.book_entries.specs.Entries.{text, size, good}
+use Rattle.book_entries.specs.Entries.{good}
 use Rattle.book_entries.specs.Book.{holds, numbered, orderly, picture, laid, entries, listed}
 use Rattle.book_entries.proofs.Tests.{both, neither}
 use Rattle.book_entries.proofs.Listed.{listing, listed-laid, laid-length}
@@ -20,7 +20,7 @@ use Rattle.book_lines.specs.Lines.{onward, entry_of, checked, parts, entry, also
 use Rattle.book_text.specs.declared.Piece.{Piece}
 use Rattle.book_text.specs.Cuts.{Cut}
 use Rattle.loaded_books.specs.Loads.{meets, distinct, gathered, Fit}
-use Rattle.loaded_books.proofs.LoadLaws.{some_is, none-some, Split, split, at-end}
+use Rattle.loaded_books.proofs.LoadLaws.{some_is, none-some, split, at-end}
 
 -- every entry that a line gives is good
 abbrev pub bad : Entry → Bool

@@ -1,13 +1,13 @@
 -- The message from its parts: the header's fields, the elements, and the constrained data behind them.
-use mathlib.Core.Path.{◌≡◌, refl, sym, ap, ◌∙◌}
-use mathlib.Core.List.{List, [], ◌∷◌, ◌++◌}
-use Prim.Native.Nat.{ℕ, zero, suc, ◌+◌, ◌/◌, ◌%◌, ◌≤◌, ◌<◌}
+use mathlib.Core.Path.{◌≡◌, refl, ap, ◌∙◌}
+use mathlib.Core.List.{List, [], ◌++◌}
+use Prim.Native.Nat.{ℕ, suc, ◌+◌, ◌/◌, ◌%◌}
 use native.Mathlib.Nat.{add-zero}
 use native.Mathlib.Omega.{arith}
 use Rattle.x691.specs.Bits.{bit_of}
 use Rattle.atn.specs.Format.{num, many, ◌⨾◌, ◌⨾?◌, or_note, end}
 use Rattle.atn.specs.Messages.{constrained_data, date_time_group, message_data}
-use Rattle.atn.specs.Reading.{Rec, Ans, ok, fork, flags, sized, times, read, read_fields}
+use Rattle.atn.specs.Reading.{Ans, ok, flags, read}
 use Rattle.atn.specs.Tags as tag
 use Rattle.atn.proofs.Tame.{tame, tame_fields}
 use Rattle.atn.proofs.Elements.{elements_firm}
@@ -15,13 +15,13 @@ use Rattle.cursor.specs.declared.place.Cursor.{Cursor}
 use Rattle.cursor.specs.declared.place.Got.{Got}
 use Rattle.field_ranges.specs.Rows as rows
 use Rattle.field_ranges.specs.Ends.{lowest, highest}
-use Rattle.cursor.specs.Place.{Inside, Opens}
+use Rattle.cursor.specs.Place.{Opens}
 use Rattle.character_strings.specs.Texts.{Sized}
 use Rattle.cursor.proofs.Laws.{reads_ok, marked-nil}
 use Rattle.cursor.proofs.FormatLaws.{all_read, opened_inside, opened-bit, last_bit}
 use Rattle.records.proofs.Telling.{told-then}
 use Rattle.runs.specs.declared.At.{At}
-use Rattle.runs.specs.Runs.{Ran, Runs}
+use Rattle.runs.specs.Runs.{Runs}
 use Rattle.runs.proofs.RunLaws.{runs_silent, runs_within, runs_clear, runs_set, ran_inside, ran_back, ran_must, ran_last, ran_may, ran_last_may, ran_note, ran_opened}
 use Rattle.runs.proofs.SizeLaws.{runs_sized}
 use Rattle.message_fields.specs.Fields.{number_field, maybe_number_field, date_time_field, acknowledgment_field}

@@ -1,8 +1,8 @@
 -- A message whose elements come to one outside the table: its header is passed over, and the rest of it does not count.
-use mathlib.Core.Path.{◌≡◌, refl, sym, ap, ◌∙◌}
+use mathlib.Core.Path.{◌≡◌, refl}
 use mathlib.Core.Bool.{Bool, true, false}
 use mathlib.Core.List.{List, []}
-use Prim.Native.Nat.{ℕ, zero, suc, ◌+◌, ◌-◌, ◌*◌, ◌/◌, ◌%◌, ◌^◌, ◌≤◌, ◌<◌}
+use Prim.Native.Nat.{ℕ, zero, suc, ◌+◌, ◌-◌, ◌*◌, ◌%◌, ◌≤◌, ◌<◌}
 use native.Mathlib.Omega.{arith}
 use lib.ListN.{length}
 use lib.Dec.{leb}
@@ -10,20 +10,17 @@ use borrow.Author.Tests.{leb-true, leb-false}
 use Rattle.x691.specs.Bits.{bit_of, uint}
 use Rattle.x691.specs.Types.{extent}
 use Rattle.x691.specs.Encoding.{width, width_in}
-use Rattle.per.proofs.Laws.{uint-below, uint-split}
-use Rattle.atn.specs.Format.{Fmt, num, noted, null, seq, end, ◌⨾◌}
+use Rattle.per.proofs.Laws.{uint-below}
+use Rattle.atn.specs.Format.{num, seq, end, ◌⨾◌}
 use Rattle.atn.specs.Messages.{date_time_group}
-use Rattle.atn.specs.Reading.{Ctx, or, flags, read}
+use Rattle.atn.specs.Reading.{or, flags}
 use Rattle.cursor.specs.declared.place.Cursor.{Cursor}
 use Rattle.cursor.specs.declared.place.Got.{Got}
 use Rattle.cursor.specs.Place.{put, got, Pulls, opened, Opens, stopped, marked}
 use Rattle.cursor.proofs.FormatLaws.{all_read}
-use Rattle.field_ranges.specs.declared.table.Range.{Range}
 use Rattle.character_strings.specs.Texts.{SizeRow, Sized}
 use Rattle.character_strings.proofs.TextLaws.{size_in, size-over}
-use Rattle.field_ranges.specs.Rows as rows
 use Rattle.records.proofs.Telling.{told-within}
-use Rattle.runs.specs.Runs.{Runs}
 use Rattle.runs.proofs.RunLaws.{runs_stayed, runs_within}
 use Rattle.passed_arguments.specs.Passed.{Within}
 use Rattle.passed_arguments.proofs.PassedLaws.{WithinFields, within_num, within_null, within-noted, within_must, within_last, within-plain, within_more}
@@ -32,7 +29,7 @@ use Rattle.elements.specs.Unlisted.{Fails}
 use Rattle.elements.proofs.UnlistedLaws.{untold}
 use Rattle.ample_headers.specs.Header.{acknowledgment, header}
 use Rattle.ample_readings.specs.Ample.{Done}
-use Rattle.message.specs.Data.{constrained_at, data_at, message_at}
+use Rattle.message.specs.Data.{data_at, message_at}
 use Rattle.message.specs.Unlisted.{header_bits}
 use Rattle.message.proofs.DataLaws.{data_read}
 use Rattle.message.proofs.AmpleHeader.{message_ample}

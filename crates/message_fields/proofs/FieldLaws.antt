@@ -1,12 +1,11 @@
 -- The fields of the header from what was read and told.
-use mathlib.Core.Path.{◌≡◌, refl}
+use mathlib.Core.Path.{◌≡◌}
 use mathlib.Core.List.{List, [], ◌∷◌}
-use Prim.Native.Nat.{ℕ, ◌<◌}
+use Prim.Native.Nat.{ℕ}
 use native.Mathlib.Omega.{arith}
 use Rattle.x691.specs.Bits.{bit_of}
 use Rattle.atn.specs.Format.{num}
-use Rattle.atn.specs.Messages.{date_time_group}
-use Rattle.atn.specs.Reading.{Ans, ok, rec, fork, read}
+use Rattle.atn.specs.Reading.{Ans, ok, rec, read}
 use Rattle.cursor.specs.declared.place.Cursor.{Cursor}
 use Rattle.cursor.specs.declared.place.Got.{Got}
 use Rattle.field_ranges.specs.Rows as rows

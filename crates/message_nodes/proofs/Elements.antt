@@ -9,12 +9,12 @@ use Rattle.atn.specs.Format.{end, ◌⨾◌, ◌⨾?◌, or_note, Alts}
 use Rattle.atn.specs.Alternatives.{alternatives_from}
 use Rattle.atn.specs.Messages.{date_time_group, constrained_data, message_data, atc_message}
 use Rattle.node_tables.specs.Nodes.{node_word, member_of, members_from, lent_table, letters_by, format_of, format_at}
-use Rattle.message_nodes.specs.Table.{table, down_data_root, down_carried_root, down_message_root, up_data_root, up_carried_root, up_message_root}
+use Rattle.message_nodes.specs.Table.{table, down_carried_root, down_message_root, up_carried_root, up_message_root}
 use Rattle.message_nodes.proofs.Arguments.{Deep, lent-elements}
 
 -- by the alternatives of the elements
 abbrev data_by : Alts → Fmt
-data_by es = seq (many 1 5 (element (choice tag.element-index es)) ⨾ constrained_data ⨾? end)
+data_by es = seq (many 1 5 (element (choice tag.element_index es)) ⨾ constrained_data ⨾? end)
 
 abbrev carried_by : Alts → Fmt
 carried_by es = lax 7 false (data_by es)

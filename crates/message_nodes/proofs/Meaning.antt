@@ -31,23 +31,23 @@ cm_ground_whole down up = refl
 
 -- the messages by what their inner strings hold
 abbrev protected_by : Fmt → Fmt
-protected_by f = ext (seq (skipped 4 ⨾? or_note tag.empty 1 0 (inner f) (soft 7 false (any_span tag.integrity-check 1) ⨾ end))) no_reader
+protected_by f = ext (seq (skipped 4 ⨾? or_note tag.empty 1 0 (inner f) (soft 7 false (any_span tag.integrity_check 1) ⨾ end))) no_reader
 
 abbrev aircraft_by : Fmt → Fmt → Fmt
 aircraft_by f g =
     noted tag.direction 0 0
-    (ext (choice tag.pdu (ext_reason tag.user_abort-reason 12 ∥ ext_reason tag.provider_abort-reason 7 ∥ seq (num tag.mode 0 1 ⨾? protected_by f ⨾ end) ∥ protected_by g ∥ none_left)) extension_alternative)
+    (ext (choice tag.pdu (ext_reason tag.user_abort_reason 12 ∥ ext_reason tag.provider_abort_reason 7 ∥ seq (num tag.mode 0 1 ⨾? protected_by f ⨾ end) ∥ protected_by g ∥ none_left)) extension_alternative)
 
 abbrev forward_by : Fmt → Fmt → Fmt
 forward_by f g =
     soft 7 false
-    (seq (seq (date_time_group ⨾ ia5 tag.aircraft_id 2 8 ⨾ span tag.aircraft_address 1 24 24 ⨾ end) ⨾ choice tag.carried-direction (inner f ∥ inner g ∥ none_left) ⨾ end))
+    (seq (seq (date_time_group ⨾ ia5 tag.aircraft_id 2 8 ⨾ span tag.aircraft_address 1 24 24 ⨾ end) ⨾ choice tag.carried_direction (inner f ∥ inner g ∥ none_left) ⨾ end))
 
 abbrev ground_by : Fmt → Fmt → Fmt → Fmt
 ground_by f g h =
     noted tag.direction 1 0
     (ext
-    (choice tag.pdu (ext_reason tag.user_abort-reason 12 ∥ ext_reason tag.provider_abort-reason 7 ∥ protected_by f ∥ protected_by f ∥ forward_by g h ∥ ext_reason tag.forward_response 2 ∥ none_left))
+    (choice tag.pdu (ext_reason tag.user_abort_reason 12 ∥ ext_reason tag.provider_abort_reason 7 ∥ protected_by f ∥ protected_by f ∥ forward_by g h ∥ ext_reason tag.forward_response 2 ∥ none_left))
     extension_alternative)
 
 downlink_whole : (down up : List ℕ) → format_at depth table down up downlink_root ≡ aircraft_pdus down

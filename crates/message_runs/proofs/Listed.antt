@@ -9,7 +9,7 @@ use lib.Dec.{leb, ltb}
 use borrow.Author.Tests.{lt-ltb, le-ltb, leb-true, le-leb, lt-leb}
 use Rattle.x691.specs.Range as range
 use Rattle.atn.specs.Format.{Fmt}
-use Rattle.atn.specs.Entries.{frame-fits, table_fits, direction-fits}
+use Rattle.atn.specs.Entries.{frame_fits, table_fits, direction_fits}
 use Rattle.message_runs.specs.declared.Kind.{Kind}
 use Rattle.message_runs.specs.declared.Starts.{Starts}
 use Rattle.message_runs.specs.declared.Starts.TheVariants.{All, UpTo, Refused}
@@ -47,33 +47,33 @@ module _ (k : Kind) (d : ℕ) (down up : List ℕ) where
   abbrev format : Fmt
   format = format_of k d down up
 
-  module _ (tables : (table_fits down && table_fits up) ≡ true) (direction : direction-fits d ≡ true) where
-    decided : (s w : List ℕ) → frame-fits s ≡ true → list_starts k d down up s w ≡ listed (cut format s) s w
+  module _ (tables : (table_fits down && table_fits up) ≡ true) (direction : direction_fits d ≡ true) where
+    decided : (s w : List ℕ) → frame_fits s ≡ true → list_starts k d down up s w ≡ listed (cut format s) s w
     unfolding list_starts
     decided s w h = rw (h, tables, direction)
 
     -- however a run is cut, that is what is listed, if there is room for it
-    pub way_listed : {s : List ℕ} (v : Way format s) (w : List ℕ) → frame-fits s ≡ true → length v.pieces ≤ length w → list_starts k d down up s w ≡ (said v.pieces v.rest, filled v.pieces w)
+    pub way_listed : {s : List ℕ} (v : Way format s) (w : List ℕ) → frame_fits s ≡ true → length v.pieces ≤ length w → list_starts k d down up s w ≡ (said v.pieces v.rest, filled v.pieces w)
     unfolding found
     way_listed {s} v w h l = decided s w h ∙ rw (cut-is k d down up v) (listed-fits v.pieces v.rest s w v.whole l)
 
-    pub no_room_lem : {s : List ℕ} (v : Way format s) (w : List ℕ) → frame-fits s ≡ true → length w < length v.pieces → list_starts k d down up s w ≡ (Refused 20 (length v.pieces), w)
+    pub no_room_lem : {s : List ℕ} (v : Way format s) (w : List ℕ) → frame_fits s ≡ true → length w < length v.pieces → list_starts k d down up s w ≡ (Refused 20 (length v.pieces), w)
     unfolding found
     no_room_lem {s} v w h l = decided s w h ∙ rw (cut-is k d down up v) (listed_full v.pieces v.rest s w l)
 
     -- a run of clean messages: their starts, and nothing is left
-    pub run-listed : (xs : List (List ℕ)) (w : List ℕ) → frame-fits (run xs) ≡ true → range.All (Padded format) xs → length xs ≤ length w → list_starts k d down up (run xs) w ≡ (All (length xs), filled xs w)
+    pub run-listed : (xs : List (List ℕ)) (w : List ℕ) → frame_fits (run xs) ≡ true → range.All (Padded format) xs → length xs ≤ length w → list_starts k d down up (run xs) w ≡ (All (length xs), filled xs w)
     unfolding said
     run-listed xs w h ps l = way_listed (all-clean k d down up xs ps) w h l
 
     -- "an empty input lists none"
     pub empty-listed : (w : List ℕ) → list_starts k d down up [] w ≡ (All 0, w)
-    unfolding run places frame-fits
+    unfolding run places frame_fits
     empty-listed w = run-listed [] w refl tt (omega arith)
 
     -- the padding of clean messages is not looked at, whatever follows them
-    pub same-listed : {xs ys : List (List ℕ)} → Pairwise (Repadded format) xs ys → (r w : List ℕ) → frame-fits (run xs ++ r) ≡ true → list_starts k d down up (run xs ++ r) w ≡ list_starts k d down up (run ys ++ r) w
-    unfolding frame-fits listed told
+    pub same-listed : {xs ys : List (List ℕ)} → Pairwise (Repadded format) xs ys → (r w : List ℕ) → frame_fits (run xs ++ r) ≡ true → list_starts k d down up (run xs ++ r) w ≡ list_starts k d down up (run ys ++ r) w
+    unfolding frame_fits listed told
     same-listed {xs} {ys} ms r w h =
         let n : length (run xs ++ r) ≡ length (run ys ++ r) = omega (arith, length-append (run xs) r, length-append (run ys) r, same_size k d down up ms) in
         decided (run xs ++ r) w h ∙ rw (same-cut k d down up ms r, n) (sym (decided (run ys ++ r) w (rw n at h)))
@@ -91,7 +91,7 @@ module _ (k : Kind) (d : ℕ) (down up : List ℕ) where
     unfolding list_starts listed found
     listed_way s w h =
         let v = way k d down up s in
-        let z = (passed (direction-fits d) _ 3 0 w (passed (table_fits down && table_fits up) _ 2 0 w (passed (frame-fits s) _ 1 0 w h).1).1).1 in
+        let z = (passed (direction_fits d) _ 3 0 w (passed (table_fits down && table_fits up) _ 2 0 w (passed (frame_fits s) _ 1 0 w h).1).1).1 in
         let y = rw (cut-is k d down up v) at z in
         let l = (passed (leb (length (places 0 v.pieces)) (length w)) _ 20 _ w y).0 in
         let e : ◌≡◌ {A = Outcome} (said v.pieces v.rest, filled v.pieces w) (r, w') = sym (listed-fits v.pieces v.rest s w v.whole (omega (arith, places-length 0 v.pieces, leb-true (length (places 0 v.pieces)) (length w) l))) ∙ y in
@@ -112,4 +112,4 @@ module _ (k : Kind) (d : ℕ) (down up : List ℕ) where
 
   pub refused-left : (s w : List ℕ) {n m : ℕ} {w' : List ℕ} → list_starts k d down up s w ≡ (Refused n m, w') → w' ≡ w
   unfolding list_starts listed
-  refused-left s w = stays (frame-fits s) _ _ w (stays (table_fits down && table_fits up) _ _ w (stays (direction-fits d) _ _ w (stays (leb (length (cut format s).starts) (length w)) _ _ w λ h. absurd (told_starts (cut format s) s (ap (λ (o : Outcome). o.0) h)))))
+  refused-left s w = stays (frame_fits s) _ _ w (stays (table_fits down && table_fits up) _ _ w (stays (direction_fits d) _ _ w (stays (leb (length (cut format s).starts) (length w)) _ _ w λ h. absurd (told_starts (cut format s) s (ap (λ (o : Outcome). o.0) h)))))

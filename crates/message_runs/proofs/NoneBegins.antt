@@ -13,7 +13,7 @@ use Rattle.x691.proofs.Unique.{none-begins}
 use Rattle.atn.specs.Format.{Fmt, type_of}
 use Rattle.atn.specs.Messages.{acse}
 use Rattle.atn.specs.Reading.{Rec}
-use Rattle.atn.specs.Entries.{accept, read_frame, Test, Outcome, enter, pdus, pdus_tests, cm_of, cm_tests, parse-pdus, parse-cm, parse-acse-apdu}
+use Rattle.atn.specs.Entries.{accept, read_frame, Test, Outcome, enter, pdus, pdus_tests, cm_of, cm_tests, parse_pdus, parse_cm, parse_acse_apdu}
 use Rattle.atn.specs.Demands.{Agree}
 use Rattle.atn.proofs.Demands.{clean-sound}
 use Rattle.message_runs.specs.Runs.{clean_reach}
@@ -58,16 +58,16 @@ module _ (ts : List Test) (f : Fmt) where
   neither_begins c d apart = (λ b. apart (begins_itself c d b), λ b. apart (sym (begins_itself d c b)))
 
 -- by name
-pub pdus_neither : (d : ℕ) (down up : List ℕ) {m n : List ℕ} → CleanBits (λ s w. parse-pdus s d down up w) m → CleanBits (λ s w. parse-pdus s d down up w) n → (m ≡ n → ⊥) → (Begins m n → ⊥) × (Begins n m → ⊥)
-unfolding parse-pdus
+pub pdus_neither : (d : ℕ) (down up : List ℕ) {m n : List ℕ} → CleanBits (λ s w. parse_pdus s d down up w) m → CleanBits (λ s w. parse_pdus s d down up w) n → (m ≡ n → ⊥) → (Begins m n → ⊥) × (Begins n m → ⊥)
+unfolding parse_pdus
 pdus_neither d down up = neither_begins (pdus_tests d down up) (pdus d down up)
 
-pub cm_neither : (d : ℕ) {m n : List ℕ} → CleanBits (λ s w. parse-cm s d w) m → CleanBits (λ s w. parse-cm s d w) n → (m ≡ n → ⊥) → (Begins m n → ⊥) × (Begins n m → ⊥)
-unfolding parse-cm
+pub cm_neither : (d : ℕ) {m n : List ℕ} → CleanBits (λ s w. parse_cm s d w) m → CleanBits (λ s w. parse_cm s d w) n → (m ≡ n → ⊥) → (Begins m n → ⊥) × (Begins n m → ⊥)
+unfolding parse_cm
 cm_neither d = neither_begins (cm_tests d) (cm_of d)
 
-pub acse_neither : {m n : List ℕ} → CleanBits (λ s w. parse-acse-apdu s w) m → CleanBits (λ s w. parse-acse-apdu s w) n → (m ≡ n → ⊥) → (Begins m n → ⊥) × (Begins n m → ⊥)
-unfolding parse-acse-apdu
+pub acse_neither : {m n : List ℕ} → CleanBits (λ s w. parse_acse_apdu s w) m → CleanBits (λ s w. parse_acse_apdu s w) n → (m ≡ n → ⊥) → (Begins m n → ⊥) × (Begins n m → ⊥)
+unfolding parse_acse_apdu
 acse_neither = neither_begins [] acse
 
 -- as frames: a frame that begins with the bits of a clean message is read alike, with the same reach and records

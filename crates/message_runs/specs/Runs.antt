@@ -3,7 +3,7 @@ use Rattle.std.specs.Prelude.{true, false, cond, ◌&&◌, List, [], ◌∷◌, 
 use Rattle.std.proofs.Math.Option.{Option, none, some}
 use Rattle.atn.specs.Format.{Fmt}
 use Rattle.atn.specs.Messages.{acse}
-use Rattle.atn.specs.Entries.{Reply, accept, ran_out, badly, unsupplied, read_frame, pdus, cm_of, frame-fits, table_fits, direction-fits}
+use Rattle.atn.specs.Entries.{Reply, accept, ran_out, badly, unsupplied, read_frame, pdus, cm_of, frame_fits, table_fits, direction_fits}
 use Rattle.message_runs.specs.declared.Kind.{Kind}
 use Rattle.message_runs.specs.declared.Kind.TheVariants.{Cpdlc, Cm, Acse}
 use Rattle.message_runs.specs.declared.Starts.{Starts}
@@ -58,8 +58,8 @@ listed c s w = cond (leb (length c.starts) (length w)) (told c s, c.starts ++ dr
 -- kind, direction, down table, up table, the run, the numbers lent: the refusals in their order, asked for every kind
 unfoldable pub list_starts : Kind → ℕ → List ℕ → List ℕ → List ℕ → List ℕ → Starts × List ℕ
 list_starts k d down up s w =
-    cond (frame-fits s)
+    cond (frame_fits s)
     (cond (table_fits down && table_fits up)
-    (cond (direction-fits d) (listed (cut (format_of k d down up) s) s w) (Refused 3 0, w))
+    (cond (direction_fits d) (listed (cut (format_of k d down up) s) s w) (Refused 3 0, w))
     (Refused 2 0, w))
     (Refused 1 0, w)

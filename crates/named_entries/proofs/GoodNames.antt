@@ -1,21 +1,20 @@
 -- A name makes a good entry: the book never calls the frame of a clean forward message nameless.
-use mathlib.Core.Path.{◌≡◌, refl, sym, ap, ◌∙◌}
+use mathlib.Core.Path.{◌≡◌, refl, sym, ap}
 use mathlib.Core.Bool.{Bool, true, false, cond, ◌&&◌}
 use mathlib.Core.List.{List, [], ◌∷◌}
 use Prim.Native.Nat.{ℕ, zero, suc, ◌+◌, ◌*◌, ◌/◌, ◌%◌, ◌^◌, ◌-◌, ◌∣◌, ◌≤◌, ◌<◌}
 use native.Mathlib.Nat.{dvd_refl, dvd-zero, dvd-add, dvd-mul_left_of_dvd, dvd-mul_right_of_dvd, mod-eq-zero_of_dvd, pow-suc}
 use native.Mathlib.Omega.{arith}
-use lib.Dec.{leb, ltb, eqb}
+use lib.Dec.{leb}
 use lib.ListN.{length, drop}
 use borrow.Author.Tests.{leb-true, le-leb, lt-ltb, eq-eqb}
 use Rattle.x691.specs.Range.{All}
 use Rattle.atn.specs.Reading.{octets}
-use Rattle.book_entries.specs.declared.Entry.{Entry}
 use Rattle.book_entries.specs.Entries.{text, size, plain, good}
-use Rattle.atn.specs.Entries.{read_frame, frame-fits, table_fits}
+use Rattle.atn.specs.Entries.{read_frame, frame_fits, table_fits}
 use Rattle.atn.specs.Messages.{ground_pdus}
 use Rattle.forward_names.specs.declared.Named.{Named}
-use Rattle.forward_names.specs.Names.{nameless, name_of, forward-name}
+use Rattle.forward_names.specs.Names.{nameless, name_of, forward_name}
 use Rattle.forward_names.specs.Forwarded.{identifier_of}
 use Rattle.forward_names.proofs.Identifiers.{named}
 use Rattle.named_entries.specs.Made.{entry_of}
@@ -64,24 +63,24 @@ zeros (suc k) (c ∷ cs) h =
     let j : length cs + (k - length cs) ≡ k = omega arith in
     rw i (dvd-add (256 ^ (k - length cs)) (dvd-mul_left_of_dvd (256 ^ (k - length cs)) (rw j at (power (length cs) (k - length cs))) c) (zeros k cs (omega arith)))
 
-module _ (s down up : List ℕ) (h : (forward-name s down up).number ≡ 0) where
+module _ (s down up : List ℕ) (h : (forward_name s down up).number ≡ 0) where
   -- a name is given only for a frame that is short enough
   pub short : length s ≤ 65536
-  unfolding forward-name frame-fits
+  unfolding forward_name frame_fits
   short = go (leb (length s) 65536) refl h
     where
       go : (t : Bool) → leb (length s) 65536 ≡ t → (cond t (cond (table_fits down && table_fits up) (name_of (read_frame (ground_pdus down up) s)) (nameless 2 0)) (nameless 1 0)).number ≡ 0 → length s ≤ 65536
       go true q z = leb-true (length s) 65536 q
       go false q z = absurd (omega arith)
 
-  pub small : (forward-name s down up).size ≤ 8
+  pub small : (forward_name s down up).size ≤ 8
   small = let i = named s down up h in omega (arith, i.forwards.in_range.0.1.0.1, ap (λ (n : Named). n.size) i.is)
 
-  pub named-good : (k : ℕ) → good (entry_of (forward-name s down up) k (length s)) ≡ true
+  pub named-good : (k : ℕ) → good (entry_of (forward_name s down up) k (length s)) ≡ true
   unfolding good
   named-good k =
       let i = named s down up h in
-      let n = forward-name s down up in
+      let n = forward_name s down up in
       let e = entry_of n k (length s) in
       let cs : List ℕ = identifier_of down up i.message in
       let sized = i.forwards.in_range.0.1.0 in

@@ -1,4 +1,6 @@
 // The entry of the book that the name in a frame makes.
+#![tactic(auto)]
+
 ghost use Rattle.std.specs.Prelude.{◌≡◌, ◌≤◌, ◌<◌};
 ghost use Rattle.named_entries.specs.Made.{entry_of};
 

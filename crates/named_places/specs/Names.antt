@@ -28,8 +28,8 @@ unfoldable pub named_recs : ℕ → List ℕ → Named → ℕ → List Rec
 named_recs t s v n = text_recs t n s v.name ++ maybe_pair_recs v.place n
 
 abbrev pub published_tag : ℕ → ℕ
-published_tag zero = tag.published-fix
-published_tag (suc k) = tag.published-navaid
+published_tag zero = tag.published_fix
+published_tag (suc k) = tag.published_navaid
 
 unfoldable pub published_recs : List ℕ → Published → ℕ → List Rec
 published_recs s v n = rec tag.published n v.kind 0 v.at ∷ named_recs (published_tag v.kind) s v.named n

@@ -1,5 +1,5 @@
 -- What a table must keep so that a list can be written by it: the first tags that it names are those of the parts, the counts are right, and spans alone have the tags of spans.
-use Rattle.std.specs.Prelude.{Bool, true, false, cond, not, ◌&&◌, List, [], ◌∷◌, ℕ, zero, suc, ◌+◌, ◌-◌, get_or, leb, ltb, eqb}
+use Rattle.std.specs.Prelude.{Bool, true, cond, not, ◌&&◌, List, [], ◌∷◌, ℕ, zero, suc, ◌+◌, ◌-◌, get_or, leb, ltb, eqb}
 use Rattle.atn.specs.Format.{Fmt}
 use Rattle.atn.specs.Reading.{flags}
 use Rattle.record_lists.specs.Clear.{firsts}

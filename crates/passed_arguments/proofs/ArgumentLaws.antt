@@ -30,8 +30,8 @@ triple {at = at} {p = p} {q = q} x e y f z = λ s h.
     let i = ahead-next (p - at) h m e (omega (arith, x.1)) in
     let j = ahead-next (q - p) i n f (omega (arith, x.1, y.1)) in
     within_many 3
-    (times_more (x.2 tag.speed-type s (ahead_fewer 15 h (omega arith)))
-    (times_more (y.2 tag.speed-type s (ahead_fewer 15 i (omega (arith, x.1)))) (times_more (z.2 tag.speed-type s (ahead_fewer 15 j (omega (arith, x.1, y.1)))) times_none)))
+    (times_more (x.2 tag.speed_type s (ahead_fewer 15 h (omega arith)))
+    (times_more (y.2 tag.speed_type s (ahead_fewer 15 i (omega (arith, x.1)))) (times_more (z.2 tag.speed_type s (ahead_fewer 15 j (omega (arith, x.1, y.1)))) times_none)))
 
 module _ {s : List ℕ} {at : ℕ} where
   pub nothing : Passed (argument_body 0) s at at
@@ -42,9 +42,9 @@ module _ {s : List ℕ} {at : ℕ} where
     named : {hi : ℕ} (t : ℕ) → PassedName v at hi p → Passed (ext_name t hi) s at p
     named t h = passed_of (omega arith) (omega arith) (h.2 t s (ahead_fewer 15 a (omega arith)))
 
-    pub speed-type : PassedName v at 8 p → Passed (argument_body 3) s at p
+    pub speed_type : PassedName v at 8 p → Passed (argument_body 3) s at p
     unfolding argument_body
-    speed-type h = named tag.speed-type h
+    speed_type h = named tag.speed_type h
 
     pub speed-types : PassedTriple v at p → Passed (argument_body 4) s at p
     unfolding argument_body
@@ -58,9 +58,9 @@ module _ {s : List ℕ} {at : ℕ} where
     unfolding argument_body
     clearance_type h = named tag.clearance_type h
 
-    pub error-information : PassedName v at 4 p → Passed (argument_body 11) s at p
+    pub error_information : PassedName v at 4 p → Passed (argument_body 11) s at p
     unfolding argument_body
-    error-information h = named tag.error-information h
+    error_information h = named tag.error_information h
 
     pub facility_function : PassedName v at 8 p → Passed (argument_body 12) s at p
     unfolding argument_body
@@ -68,20 +68,20 @@ module _ {s : List ℕ} {at : ℕ} where
 
     pub speed : PassedRow v at 3 rows.speed_0 7 p → Passed (argument_body 2) s at p
     unfolding argument_body lowest last width width_in highest count
-    speed h = passed_of (omega arith) (omega arith) (h tag.speed tag.speed-number none_left s refl (ahead_fewer 3 a (omega arith)))
+    speed h = passed_of (omega arith) (omega arith) (h tag.speed tag.speed_number none_left s refl (ahead_fewer 3 a (omega arith)))
 
     pub level : PassedRow v at 2 rows.level_0 4 p → Passed (argument_body 5) s at p
     unfolding argument_body lowest last width width_in highest count
-    level h = passed_of (omega arith) (omega arith) (h tag.level tag.level-number none_left s refl (ahead_fewer 2 a (omega arith)))
+    level h = passed_of (omega arith) (omega arith) (h tag.level tag.level_number none_left s refl (ahead_fewer 2 a (omega arith)))
 
     pub degrees : PassedRow v at 1 rows.degrees_0 2 p → Passed (argument_body 6) s at p
     unfolding argument_body lowest last width width_in highest count
-    degrees h = passed_of (omega arith) (omega arith) (h tag.degrees tag.degrees-number none_left s refl (ahead_fewer 1 a (omega arith)))
+    degrees h = passed_of (omega arith) (omega arith) (h tag.degrees tag.degrees_number none_left s refl (ahead_fewer 1 a (omega arith)))
 
     -- its fourth kind is a text
     pub frequency : PassedRow v at 2 rows.frequency_0 3 p → Passed (argument_body 7) s at p
     unfolding argument_body lowest last width width_in highest count
-    frequency h = passed_of (omega arith) (omega arith) (h tag.frequency tag.frequency-number (numeric_string tag.satellite_channel tag.satellite_channel_x691 12 12 ∥ none_left) s refl (ahead_fewer 2 a (omega arith)))
+    frequency h = passed_of (omega arith) (omega arith) (h tag.frequency tag.frequency_number (numeric_string tag.satellite_channel tag.satellite_channel_x691 12 12 ∥ none_left) s refl (ahead_fewer 2 a (omega arith)))
 
     pub coordinates : PassedPair v at p → Passed (argument_body 15) s at p
     unfolding argument_body
@@ -103,10 +103,10 @@ module _ {s : List ℕ} {at : ℕ} where
   pub code : {w : ℕ} → w ≡ width (extent 0 7) → Passed (argument_body 8) s at (at + 4 * w)
   unfolding argument_body extent width width_in
   code {w} q =
-      let d : (p : ℕ) → Within 1 w (num tag.code-digit 0 7) s p (p + w) = λ p. within_num tag.code-digit 0 7 w (sym q) in
+      let d : (p : ℕ) → Within 1 w (num tag.code_digit 0 7) s p (p + w) = λ p. within_num tag.code_digit 0 7 w (sym q) in
       let e : at + w + w + w + w ≡ at + 4 * w = omega arith in
       passed_of (omega arith) (omega (arith, q)) (rw e at (within_many 4 (times_more (d at) (times_more (d (at + w)) (times_more (d (at + w + w)) (times_more (d (at + w + w + w)) times_none))))))
 
   pub runway : {v w : ℕ} → v ≡ width (extent 1 36) → w ≡ width (extent 0 3) → Passed (argument_body 14) s at (at + v + w)
   unfolding argument_body extent width width_in flags all_read
-  runway q r = rw (q, r) (passed_of (omega arith) (omega arith) (within-plain refl refl (within_must (within_num tag.runway 1 36 6 refl) (within_last (within_num tag.runway-side 0 3 2 refl)))))
+  runway q r = rw (q, r) (passed_of (omega arith) (omega arith) (within-plain refl refl (within_must (within_num tag.runway 1 36 6 refl) (within_last (within_num tag.runway_side 0 3 2 refl)))))

@@ -152,21 +152,21 @@ fields_placed {s} {at} e z y = let b : bit_of s at ≡ 1 = omega (arith, e, z, b
 ---------------------------------------------------------------- procedures
 
 -- a kind of w bits, and a name of k characters, whose size has d
-pub procedure-named : {s : List ℕ} {at i k w d r : ℕ} → w ≡ width (extent 0 2) → d ≡ width (extent 1 20) → i ≡ uint (bit_of s) (at + 1) w → i ≤ 2 → k ≡ 1 + uint (bit_of s) (at + 1 + w) d → WithinFields 1 59 (message.ia5 tag.procedure-transition 1 5 ⨾? end) s at (at + 1 + w + d + k * 7) r → Within 6 291 procedure_argument s at r
+pub procedure-named : {s : List ℕ} {at i k w d r : ℕ} → w ≡ width (extent 0 2) → d ≡ width (extent 1 20) → i ≡ uint (bit_of s) (at + 1) w → i ≤ 2 → k ≡ 1 + uint (bit_of s) (at + 1 + w) d → WithinFields 1 59 (message.ia5 tag.procedure_transition 1 5 ⨾? end) s at (at + 1 + w + d + k * 7) r → Within 6 291 procedure_argument s at r
 unfolding extent width width_in flags all_read
 procedure-named {s} {at} {k = k} {w} {d} e f u l g y =
     let n : k ≤ 32 = omega (arith, g, f, uint-below-wide 5 s (at + 1 + w) d (omega (arith, f))) in
-    within_more (omega arith) (omega (arith, e, f)) (within_seq 1 refl refl (within_must (within-name tag.procedure 2 w (sym e) u l) (within_must (within_more {c = 4} {k = 229} (omega arith) (omega (arith, f)) (within_text tag.procedure-name 1 20 d (sym f) g)) y)))
+    within_more (omega arith) (omega (arith, e, f)) (within_seq 1 refl refl (within_must (within-name tag.procedure 2 w (sym e) u l) (within_must (within_more {c = 4} {k = 229} (omega arith) (omega (arith, f)) (within_text tag.procedure_name 1 20 d (sym f) g)) y)))
 
-pub transition-absent : {s : List ℕ} {at p : ℕ} → 0 ≡ bit_of s at → WithinFields 1 59 (message.ia5 tag.procedure-transition 1 5 ⨾? end) s at p p
+pub transition-absent : {s : List ℕ} {at p : ℕ} → 0 ≡ bit_of s at → WithinFields 1 59 (message.ia5 tag.procedure_transition 1 5 ⨾? end) s at p p
 transition-absent z = fields_more (omega arith) (omega arith) (within-absent (sym z) within_end)
 
-pub transition-present : {s : List ℕ} {at p k w has : ℕ} → has ≡ bit_of s at → (has ≡ 0 → ⊥) → w ≡ width (extent 1 5) → k ≡ 1 + uint (bit_of s) p w → WithinFields 1 59 (message.ia5 tag.procedure-transition 1 5 ⨾? end) s at p (p + w + k * 7)
+pub transition-present : {s : List ℕ} {at p k w has : ℕ} → has ≡ bit_of s at → (has ≡ 0 → ⊥) → w ≡ width (extent 1 5) → k ≡ 1 + uint (bit_of s) p w → WithinFields 1 59 (message.ia5 tag.procedure_transition 1 5 ⨾? end) s at p (p + w + k * 7)
 unfolding extent width width_in
 transition-present {s} {at} {p} {k} {w} e z f g =
     let b : bit_of s at ≡ 1 = omega (arith, e, z, bit_of-lt s at) in
     let n : k ≤ 8 = omega (arith, g, f, uint-below-wide 3 s p w (omega (arith, f))) in
-    within-present (within_more {c = 1} {k = 59} (omega arith) (omega (arith, f)) (within_text tag.procedure-transition 1 5 w (sym f) g)) b within_end
+    within-present (within_more {c = 1} {k = 59} (omega arith) (omega (arith, f)) (within_text tag.procedure_transition 1 5 w (sym f) g)) b within_end
 
 -- a procedure's word: behind the presence bit of the transition its kind of w bits, and the size of its name
 module _ {s : List ℕ} {at v a : ℕ} (h : Ahead s at 45 v) (f : a ≡ v * 2 ^ 1 % 2 ^ 64) where
@@ -176,14 +176,14 @@ module _ {s : List ℕ} {at v a : ℕ} (h : Ahead s at 45 v) (f : a ≡ v * 2 ^ 
   pub procedure_kind : {i : ℕ} (w : ℕ) → i ≡ a / 2 ^ (64 - w) → w ≤ 44 → i ≡ uint (bit_of s) (at + 1) w
   procedure_kind w e l = e ∙ first-spelt behind-presence w l
 
-  pub procedure-size : {b d raw : ℕ} (w : ℕ) → b ≡ a * 2 ^ w % 2 ^ 64 → raw ≡ b / 2 ^ (64 - d) → w + d ≤ 44 → d ≤ 5 → (raw ≡ uint (bit_of s) (at + 1 + w) d) × (raw < 32)
-  procedure-size {d = d} {raw} w g e l n =
+  pub procedure_size : {b d raw : ℕ} (w : ℕ) → b ≡ a * 2 ^ w % 2 ^ 64 → raw ≡ b / 2 ^ (64 - d) → w + d ≤ 44 → d ≤ 5 → (raw ≡ uint (bit_of s) (at + 1 + w) d) × (raw < 32)
+  procedure_size {d = d} {raw} w g e l n =
       let u : raw ≡ uint (bit_of s) (at + 1 + w) d = e ∙ first-spelt (ahead-next w behind-presence refl g (omega arith)) d (omega arith) in
       (u, omega (arith, u, uint-below-wide 5 s (at + 1 + w) d n))
 
 -- the size of a transition, from the bits behind the name
-pub transition-size : {s : List ℕ} {p v w raw : ℕ} → Ahead s p 57 v → raw ≡ v / 2 ^ (64 - w) → w ≤ 3 → (raw ≡ uint (bit_of s) p w) × (raw < 8)
-transition-size {s} {p} {w = w} {raw} h e l = let u : raw ≡ uint (bit_of s) p w = e ∙ first-spelt h w (omega arith) in (u, omega (arith, u, uint-below-wide 3 s p w l))
+pub transition_size : {s : List ℕ} {p v w raw : ℕ} → Ahead s p 57 v → raw ≡ v / 2 ^ (64 - w) → w ≤ 3 → (raw ≡ uint (bit_of s) p w) × (raw < 8)
+transition_size {s} {p} {w = w} {raw} h e l = let u : raw ≡ uint (bit_of s) p w = e ∙ first-spelt h w (omega arith) in (u, omega (arith, u, uint-below-wide 3 s p w l))
 
 ---------------------------------------------------------------- departures
 

@@ -49,4 +49,4 @@ abbrev pub PassedPair : ℕ → ℕ → ℕ → Type 0
 PassedPair v at p = (s : List ℕ) → Ahead s at 28 v → Within 11 50 latlon s at p
 
 abbrev pub procedure_argument : Fmt
-procedure_argument = procedure tag.procedure tag.procedure-name tag.procedure-transition
+procedure_argument = procedure tag.procedure tag.procedure_name tag.procedure_transition

@@ -48,12 +48,12 @@ module _ (down : List ℕ) {s : List ℕ} {c : Cursor} {g : Got} {n : ℕ} {w w�
 
 module _ (v : ℕ) (down up : List ℕ) {b : ℕ} {s : List ℕ} {c : Cursor} {n : ℕ} {w w' : List ℕ} {r : At} where
   -- of both directions: the reasons of aborts
-  pub user_abort : (d : ℕ) → v ≡ 0 → Runs b (reason_at rows.user_abort-reason 4 s) s c n w w' r → Runs b (alternative_at d v down up s) s c n w w' r
+  pub user_abort : (d : ℕ) → v ≡ 0 → Runs b (reason_at rows.user_abort_reason 4 s) s c n w w' r → Runs b (alternative_at d v down up s) s c n w w' r
   unfolding alternative_at reason_at read_choice highest
   user_abort zero q x = rw q x
   user_abort (suc d) q x = rw q x
 
-  pub provider_abort : (d : ℕ) → v ≡ 1 → Runs b (reason_at rows.provider_abort-reason 5 s) s c n w w' r → Runs b (alternative_at d v down up s) s c n w w' r
+  pub provider_abort : (d : ℕ) → v ≡ 1 → Runs b (reason_at rows.provider_abort_reason 5 s) s c n w w' r → Runs b (alternative_at d v down up s) s c n w w' r
   unfolding alternative_at reason_at read_choice highest
   provider_abort zero q x = rw q x
   provider_abort (suc d) q x = rw q x

@@ -12,9 +12,9 @@ start_at down s e p = read (seq (num tag.mode 0 1 ⨾? protected_message down �
 -- the alternatives of the downlink, and those of the uplink
 abbrev pub alternatives : ℕ → List ℕ → List ℕ → Alts
 alternatives zero down up =
-    ext_reason tag.user_abort-reason 12 ∥ ext_reason tag.provider_abort-reason 7 ∥ seq (num tag.mode 0 1 ⨾? protected_message down ⨾ end) ∥ protected_message down ∥ none_left
+    ext_reason tag.user_abort_reason 12 ∥ ext_reason tag.provider_abort_reason 7 ∥ seq (num tag.mode 0 1 ⨾? protected_message down ⨾ end) ∥ protected_message down ∥ none_left
 alternatives (suc d) down up =
-    ext_reason tag.user_abort-reason 12 ∥ ext_reason tag.provider_abort-reason 7 ∥ protected_message up ∥ protected_message up ∥ forward down up ∥ ext_reason tag.forward_response 2 ∥ none_left
+    ext_reason tag.user_abort_reason 12 ∥ ext_reason tag.provider_abort_reason 7 ∥ protected_message up ∥ protected_message up ∥ forward down up ∥ ext_reason tag.forward_response 2 ∥ none_left
 
 unfoldable pub alternative_at : ℕ → ℕ → List ℕ → List ℕ → List ℕ → ℕ → ℕ → Ans
 alternative_at d v down up s e p = read_choice (alternatives d down up) v (0, 0) (bit_of s) e p

@@ -24,8 +24,8 @@ module _ {s : List ℕ} {c d : Cursor} {g : Got} {n m : ℕ} {w w₁ : List ℕ}
   unfolding extension_at mark
   extension_untold z =
       runs_within 2 (extension_at s) (omega arith)
-      (runs_noted (0, 0) tag.pdu 0 1 (small 2 tag.extension-index) goes t (runs_untold (λ u p. read (small 2 tag.extension-index) (0, 0) (bit_of s) u p) ((takes_small 2 tag.extension-index q h).took (0, 0)) z))
+      (runs_noted (0, 0) tag.pdu 0 1 (small 2 tag.extension_index) goes t (runs_untold (λ u p. read (small 2 tag.extension_index) (0, 0) (bit_of s) u p) ((takes_small 2 tag.extension_index q h).took (0, 0)) z))
 
   pub extension-told : {k : ℕ} {w₂ : List ℕ} → g.c.why ≡ 0 → Told 1 w₁ w₂ m k (rec 3 0 g.v 0 d.at ∷ []) → Runs 2 (extension_at s) s c n w w₂ (record { n = k; c = g.c })
   unfolding extension_at mark
-  extension-told z u = runs_noted (0, 0) tag.pdu 0 1 (small 2 tag.extension-index) goes t (runs_told (λ u p. read (small 2 tag.extension-index) (0, 0) (bit_of s) u p) ((takes_small 2 tag.extension-index q h).took (0, 0)) z u)
+  extension-told z u = runs_noted (0, 0) tag.pdu 0 1 (small 2 tag.extension_index) goes t (runs_told (λ u p. read (small 2 tag.extension_index) (0, 0) (bit_of s) u p) ((takes_small 2 tag.extension_index q h).took (0, 0)) z u)

@@ -1,8 +1,8 @@
 -- How a list is written: its members first, and then their number, before them.
 use mathlib.Core.Path.{◌≡◌, refl, sym, ap, ◌∙◌}
-use mathlib.Core.Bool.{Bool, true, false, cond, false≢true}
+use mathlib.Core.Bool.{true, false, false≢true}
 use mathlib.Core.List.{List, [], ◌∷◌, ◌++◌}
-use Prim.Native.Nat.{ℕ, zero, suc, ◌+◌, ◌-◌, ◌≤◌, ◌<◌}
+use Prim.Native.Nat.{ℕ, suc, ◌+◌, ◌-◌, ◌≤◌, ◌<◌}
 use native.Mathlib.Omega.{arith}
 use lib.ListN.{length, length-append}
 use lib.Dec.{leb}
@@ -21,7 +21,7 @@ use Rattle.record_lists.specs.Parse.{Got, no, got, opens, keep, feed, turn, seve
 use Rattle.record_lists.proofs.Forth.{feed_inv, turn_inv}
 use Rattle.pens.specs.declared.Pen.{Pen}
 use Rattle.pens.specs.Rest.{items}
-use Rattle.pens.specs.Writes.{limit, Took, Wrote, Writes, Skips, Part, Repeats}
+use Rattle.pens.specs.Writes.{limit, Took, Wrote, Skips, Part, Repeats}
 use Rattle.pens.proofs.PenLaws.{then_writes, writes_still}
 use Rattle.pens.proofs.MemberLaws.{set_bits_swap}
 

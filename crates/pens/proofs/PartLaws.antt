@@ -1,25 +1,21 @@
 -- How a part is written by its format: each law for one form of it.
 use mathlib.Core.Path.{◌≡◌, refl, sym, ap, ◌∙◌}
-use mathlib.Core.Bool.{Bool, true, false, cond, false≢true}
-use mathlib.Core.Option.{Option, none, some}
-use mathlib.Core.Logic.{◌⊎◌, inl, inr}
+use mathlib.Core.Bool.{true, false, false≢true}
 use mathlib.Core.List.{List, [], ◌∷◌, ◌++◌}
-use Prim.Native.Nat.{ℕ, zero, suc, ◌+◌, ◌-◌, ◌*◌, ◌/◌, ◌%◌, ◌^◌, ◌≤◌, ◌<◌}
+use Prim.Native.Nat.{ℕ, zero, ◌+◌, ◌-◌, ◌/◌, ◌%◌, ◌≤◌, ◌<◌}
 use native.Mathlib.Omega.{arith}
 use lib.ListN.{length, length-append}
-use lib.Dec.{leb, ltb}
-use borrow.Author.Tests.{leb-true, lt-ltb, le-ltb, le-leb, lt-leb}
+use lib.Dec.{ltb}
+use borrow.Author.Tests.{lt-ltb, le-ltb}
 use Rattle.x691.specs.Bits.{bits_of}
 use Rattle.x691.specs.Types.{Value}
-use Rattle.x691.specs.Encoding.{width, highest, length_bits, size_bits, joined, encode, encode_pick, index}
-use Rattle.x691.specs.Range.{InRange}
+use Rattle.x691.specs.Encoding.{width, highest, length_bits, encode, encode_pick, index}
 use Rattle.x691.proofs.BitLaws.{length-bits_of}
-use Rattle.atn.specs.Format.{Fmt, noted, placed, ext, choice, many, inner, Alts, type_of, alternatives_of}
+use Rattle.atn.specs.Format.{Fmt, noted, placed, ext, choice, inner, Alts, type_of, alternatives_of}
 use Rattle.atn.specs.Reading.{Ctx}
-use Rattle.bit_writer.specs.Put.{set_bits}
 use Rattle.bit_writer.proofs.PutLaws.{set_bits-join}
 use Rattle.record_lists.specs.Items.{Item, plain}
-use Rattle.record_lists.specs.Parse.{Got, no, got, peel, feed, turn, keep, parse, parse_pick}
+use Rattle.record_lists.specs.Parse.{Got, no, got, peel, feed, keep, parse, parse_pick}
 use Rattle.record_lists.proofs.Forth.{forth, forth_pick}
 use Rattle.record_lists.specs.Most.{most}
 use Rattle.record_lists.proofs.Longest.{longest}

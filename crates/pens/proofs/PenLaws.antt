@@ -1,15 +1,15 @@
 -- Parts written one after another.
 use mathlib.Core.Path.{◌≡◌, refl, sym, ap, ◌∙◌}
-use mathlib.Core.Bool.{Bool, true, false, cond, false≢true}
+use mathlib.Core.Bool.{true, false, false≢true}
 use mathlib.Core.List.{List, [], ◌∷◌, ◌++◌}
-use Prim.Native.Nat.{ℕ, zero, suc, ◌+◌, ◌≤◌, ◌<◌}
+use Prim.Native.Nat.{ℕ, zero, ◌+◌, ◌≤◌, ◌<◌}
 use native.Mathlib.Omega.{arith}
 use lib.ListN.{length, drop, length-append}
 use Rattle.x691.specs.Bits.{bits_of}
 use Rattle.bit_writer.specs.Put.{set_bits}
 use Rattle.bit_writer.proofs.PutLaws.{set_bits-join}
 use Rattle.record_lists.specs.Items.{Item}
-use Rattle.record_lists.specs.Parse.{Got, no, got, same, begins, peel, feed, turn}
+use Rattle.record_lists.specs.Parse.{Got, no, got, begins, peel, feed, turn}
 use Rattle.pens.specs.declared.Pen.{Pen}
 use Rattle.pens.specs.Writes.{limit, Took, Wrote, Writes, Inks}
 use Rattle.pens.proofs.GotLaws.{writes_none}

@@ -1,5 +1,5 @@
 -- What a function that writes a part owes: the list is refused where no value is got from it; else the value's bits are put, and the rest of the list is left.
-use Rattle.std.specs.Prelude.{◌≡◌, Bool, true, false, List, ℕ, ◌+◌, ◌≤◌, length}
+use Rattle.std.specs.Prelude.{◌≡◌, true, false, List, ℕ, ◌+◌, ◌≤◌, length}
 use Rattle.x691.specs.Bits.{bits_of}
 use Rattle.x691.specs.Types.{Value}
 use Rattle.x691.specs.Encoding.{joined, preamble, encode, encode_members}

@@ -93,7 +93,7 @@ brackets phrase {i} {j} p q =
     let t : Placed 93 (drop i phrase) j = tail_placed phrase i p.within q in
     record {
       open_is = p.is;
-      close-is = rw (← p.is) (ap (λ (k : ℕ). i + k) t.is);
+      close_is = rw (← p.is) (ap (λ (k : ℕ). i + k) t.is);
       order = omega arith;
       within = omega (arith, p.within, t.within, length-drop i phrase);
     }

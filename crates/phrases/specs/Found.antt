@@ -15,6 +15,6 @@ pub record Found (table : List ℕ) (index : ℕ) (r : Phrase) : Type 0 where
 
 pub record Bracketed (phrase : List ℕ) (r : Bracket) : Type 0 where
   pub open_is : r.opens ≡ place 91 phrase
-  pub close-is : r.closes ≡ close phrase
+  pub close_is : r.closes ≡ close phrase
   pub order : r.opens ≤ r.closes
   pub within : r.closes ≤ length phrase

@@ -28,15 +28,15 @@ abbrev alts : Alts
 alts = message.named 31 5 ∥ message.named 32 4 ∥ message.ia5 33 4 4 ∥ message.latlon ∥ message.unlisted ∥ none_left
 
 module _ {s : List ℕ} {c : Cursor} (g : Got) (p : Pulls s c 3 g) where
-  pub position-fix : g.v ≡ 0 → (r : NamedAt) → NamedPlaces rows.fix-size s g.c r → Positions s c (record { position = Fix c.at r.named; c = r.c })
+  pub position-fix : g.v ≡ 0 → (r : NamedAt) → NamedPlaces rows.fix_size s g.c r → Positions s c (record { position = Fix c.at r.named; c = r.c })
   unfolding read_choice width width_in encoding.highest count lowest highest
   position-fix z r h = record { reads = takes_index 30 alts 0 _ g p z (λ x u q. refl) (h.reads 31); held = h.held }
 
-  pub position-navaid : g.v ≡ 1 → (r : NamedAt) → NamedPlaces rows.navaid-size s g.c r → Positions s c (record { position = Navaid c.at r.named; c = r.c })
+  pub position-navaid : g.v ≡ 1 → (r : NamedAt) → NamedPlaces rows.navaid_size s g.c r → Positions s c (record { position = Navaid c.at r.named; c = r.c })
   unfolding read_choice width width_in encoding.highest count lowest highest
   position-navaid z r h = record { reads = takes_index 30 alts 1 _ g p z (λ x u q. refl) (h.reads 32); held = h.held }
 
-  pub position-airport : g.v ≡ 2 → (r : TextAt) → Texts rows.airport-size s g.c r → Positions s c (record { position = Airport c.at r.text; c = r.c })
+  pub position-airport : g.v ≡ 2 → (r : TextAt) → Texts rows.airport_size s g.c r → Positions s c (record { position = Airport c.at r.text; c = r.c })
   unfolding read_choice width width_in encoding.highest count lowest highest
   position-airport z r h = record { reads = takes_index 30 alts 2 _ g p z (λ x u q. refl) (h.text 33); held = held-text h }
 

@@ -1,21 +1,21 @@
 -- The protected message from its parts.
-use mathlib.Core.Path.{◌≡◌, refl, sym, ap, ◌∙◌}
-use mathlib.Core.Bool.{true, false}
+use mathlib.Core.Path.{◌≡◌, refl, ap, ◌∙◌}
+use mathlib.Core.Bool.{false}
 use mathlib.Core.List.{List, [], ◌∷◌, ◌++◌}
 use Prim.Native.Nat.{ℕ, suc, ◌+◌, ◌*◌, ◌/◌, ◌%◌}
 use native.Mathlib.Nat.{add-zero}
 use native.Mathlib.Omega.{arith}
 use Rattle.x691.specs.Bits.{bit_of}
-use Rattle.atn.specs.Format.{Fmt, bad, skipped, inner, soft, any_span, seq, refuse, Flds, end, ◌⨾◌, ◌⨾?◌, or_note}
+use Rattle.atn.specs.Format.{Fmt, bad, skipped, inner, soft, any_span, seq, Flds, end, ◌⨾◌, ◌⨾?◌, or_note}
 use Rattle.atn.specs.Messages.{atc_message, no_reader}
-use Rattle.atn.specs.Reading.{Rec, rec, Ans, ok, fork, mark, flags, read}
+use Rattle.atn.specs.Reading.{rec, Ans, ok, mark, flags, read}
 use Rattle.atn.specs.Tags as tag
 use Rattle.atn.proofs.Tame.{tame}
 use Rattle.cursor.specs.declared.place.Cursor.{Cursor}
 use Rattle.cursor.specs.declared.place.Got.{Got}
 use Rattle.length_determinants.specs.declared.Measured.{Measured}
 use Rattle.length_determinants.specs.Lengths.{Measures, Passes}
-use Rattle.cursor.specs.Place.{marked, stopped, Inside, Pulls, Opens, Reads}
+use Rattle.cursor.specs.Place.{marked, stopped, Pulls, Opens, Reads}
 use Rattle.cursor.proofs.Laws.{reads_ok, reads_here, marked-nil}
 use Rattle.length_determinants.proofs.LengthLaws.{reads_clear, reads_set, takes_skipped}
 use Rattle.cursor.proofs.FormatLaws.{all_read, takes_refuse, opened_inside, opened-bit, last_bit}
@@ -64,7 +64,7 @@ module _ (has : ℕ) (table : List ℕ) {b : ℕ} {s : List ℕ} {c : Cursor} {n
 ---------------------------------------------------------------- all of it
 
 abbrev checked : Fmt
-checked = soft 7 false (any_span tag.integrity-check 1)
+checked = soft 7 false (any_span tag.integrity_check 1)
 
 abbrev behind : List ℕ → Flds
 behind table = or_note tag.empty 1 0 (inner (atc_message table)) (checked ⨾ end)

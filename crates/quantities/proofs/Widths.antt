@@ -2,7 +2,7 @@
 use mathlib.Core.Path.{◌≡◌, refl, ap}
 use Prim.Native.Nat.{ℕ, zero, suc}
 use Rattle.x691.specs.Encoding.{width, highest, count}
-use Rattle.atn.specs.Format.{Alts, none_left, alternatives_of}
+use Rattle.atn.specs.Format.{none_left, alternatives_of}
 use Rattle.ranged_numbers.specs.Numbers.{rows_then}
 use Rattle.quantities.specs.Readers.{index_width}
 

@@ -19,10 +19,10 @@ pub record Quantities (k n : ℕ) (s : List ℕ) (c : Cursor) (r : QuantityAt) :
   pub reads : (t u : ℕ) → Takes (choice t (rows_then u k n none_left)) s c r.c (quantity_recs t u r.quantity)
 
 pub record Speeds (s : List ℕ) (c : Cursor) (r : QuantityAt) : Type 0 where
-  pub reads : Takes message.speed s c r.c (quantity_recs tag.speed tag.speed-number r.quantity)
+  pub reads : Takes message.speed s c r.c (quantity_recs tag.speed tag.speed_number r.quantity)
 
 pub record Levels (s : List ℕ) (c : Cursor) (r : QuantityAt) : Type 0 where
-  pub reads : Takes message.level_type s c r.c (quantity_recs tag.level tag.level-number r.quantity)
+  pub reads : Takes message.level_type s c r.c (quantity_recs tag.level tag.level_number r.quantity)
 
 pub record Degrees (s : List ℕ) (c : Cursor) (r : QuantityAt) : Type 0 where
-  pub reads : Takes message.degrees s c r.c (quantity_recs tag.degrees tag.degrees-number r.quantity)
+  pub reads : Takes message.degrees s c r.c (quantity_recs tag.degrees tag.degrees_number r.quantity)

@@ -1,12 +1,12 @@
 -- A choice of numbers whose ranges stand in a row of the table: speeds, levels, frequencies.
-use Rattle.std.proofs.Common.{◌≡◌, ℕ, zero, suc, ◌+◌, ◌-◌, ◌<◌, ◌≤◌, List, [], ◌∷◌, sym, refl, ap, ◌∙◌, add-zero, add-suc, suc-add, arith}
+use Rattle.std.proofs.Common.{◌≡◌, ℕ, zero, suc, ◌+◌, ◌-◌, ◌<◌, ◌≤◌, List, [], ◌∷◌, sym, ap, ◌∙◌, add-zero, add-suc, suc-add, arith}
 use Rattle.x691.specs.Bits.{bit_of}
 use Rattle.x691.specs.Encoding.{width, highest as last}
-use Rattle.atn.specs.Format.{Fmt, num, choice, Alts, none_left, ◌∥◌, alternatives_of, bad}
-use Rattle.atn.specs.Reading.{Rec, rec, Ctx, Ans, ok, stop, glue, then, or, mark, read, read_choice}
+use Rattle.atn.specs.Format.{Fmt, num, choice, Alts, none_left, alternatives_of, bad}
+use Rattle.atn.specs.Reading.{Rec, rec, Ctx, ok, stop, glue, then, or, mark, read, read_choice}
 use Rattle.cursor.specs.declared.place.Cursor.{Cursor}
 use Rattle.cursor.specs.declared.place.Got.{Got}
-use Rattle.cursor.specs.Place.{stopped, Pulls, Reads, Takes}
+use Rattle.cursor.specs.Place.{stopped, Pulls, Takes}
 use Rattle.field_ranges.specs.Ends.{lowest, highest}
 use Rattle.ranged_numbers.specs.Numbers.{rows_then, Ranged}
 use Rattle.cursor.proofs.Laws.{reads_same, reads_stop, reads_stop_with, pull-from}

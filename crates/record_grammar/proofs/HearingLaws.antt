@@ -1,18 +1,18 @@
 -- One row, and one record, of a walk.
 use mathlib.Core.Bool.{Bool, true, false, cond}
-use mathlib.Core.List.{List, [], ◌∷◌}
-use mathlib.Core.Path.{◌≡◌, refl, sym, ap, ◌∙◌}
+use mathlib.Core.List.{List, []}
+use mathlib.Core.Path.{◌≡◌, ap, ◌∙◌}
 use Prim.Native.Nat.{ℕ, zero, suc, ◌+◌, ◌-◌, ◌≤◌, ◌<◌}
 use native.Mathlib.Numerals.{add-one}
 use native.Mathlib.Omega.{arith}
-use Rattle.atn.specs.Reading.{Rec, rec}
+use Rattle.atn.specs.Reading.{rec}
 use Rattle.record_views.specs.View.{count, record_at, records_from, fetched}
 use Rattle.record_views.specs.declared.Record.{Record}
 use Rattle.record_views.proofs.ViewLaws.{from_here, from_end, record_past}
 use Rattle.record_grammar.specs.declared.Row.{Row}
 use Rattle.record_grammar.specs.declared.Walk.{Walk}
 use Rattle.record_grammar.specs.Rows.{row_at, fits, resolved, asked, found, stepped}
-use Rattle.record_grammar.specs.Heard.{start, walked, heard}
+use Rattle.record_grammar.specs.Heard.{start, walked}
 
 -- the row is found, or the next is asked
 module _ (N : List ℕ) (s : Walk) (x : Record) {j : ℕ} {r : Row} {b : Bool} where

@@ -40,13 +40,13 @@ table =
     -- 15 extension-alternative
     tag.pdu ∷ note ∷ 0 ∷ 1 ∷ 16 ∷ 0 ∷ 0 ∷ 0 ∷
     -- 16 extension-index
-    tag.extension-index ∷ number ∷ 0 ∷ 9223372036854775808 ∷ 40 ∷ 17 ∷ 0 ∷ 0 ∷
+    tag.extension_index ∷ number ∷ 0 ∷ 9223372036854775808 ∷ 40 ∷ 17 ∷ 0 ∷ 0 ∷
     -- 17 extension-index, upper half
-    tag.extension-index ∷ number ∷ 9223372036854775808 ∷ 9223372036854775808 ∷ 40 ∷ 0 ∷ 0 ∷ 0 ∷
+    tag.extension_index ∷ number ∷ 9223372036854775808 ∷ 9223372036854775808 ∷ 40 ∷ 0 ∷ 0 ∷ 0 ∷
     -- 18 user-abort-reason
-    tag.user_abort-reason ∷ reason ∷ 0 ∷ 16 ∷ 40 ∷ 0 ∷ 0 ∷ 0 ∷
+    tag.user_abort_reason ∷ reason ∷ 0 ∷ 16 ∷ 40 ∷ 0 ∷ 0 ∷ 0 ∷
     -- 19 provider-abort-reason
-    tag.provider_abort-reason ∷ reason ∷ 0 ∷ 8 ∷ 40 ∷ 0 ∷ 0 ∷ 0 ∷
+    tag.provider_abort_reason ∷ reason ∷ 0 ∷ 8 ∷ 40 ∷ 0 ∷ 0 ∷ 0 ∷
     -- 20 forward-response
     tag.forward_response ∷ reason ∷ 0 ∷ 4 ∷ 40 ∷ 0 ∷ 0 ∷ 0 ∷
     -- 21 mode
@@ -78,15 +78,15 @@ table =
     -- 34 aircraft-address
     tag.aircraft_address ∷ span ∷ 24 ∷ 1 ∷ 35 ∷ 0 ∷ 0 ∷ 0 ∷
     -- 35 carried-direction
-    tag.carried-direction ∷ number ∷ 0 ∷ 2 ∷ 37 ∷ 0 ∷ 0 ∷ 40 ∷
+    tag.carried_direction ∷ number ∷ 0 ∷ 2 ∷ 37 ∷ 0 ∷ 0 ∷ 40 ∷
     -- 36 first element
-    tag.element-index ∷ index ∷ 0 ∷ 256 ∷ 41 ∷ 0 ∷ 38 ∷ 0 ∷
+    tag.element_index ∷ index ∷ 0 ∷ 256 ∷ 41 ∷ 0 ∷ 38 ∷ 0 ∷
     -- 37 first element carried
-    tag.element-index ∷ index ∷ 0 ∷ 256 ∷ 41 ∷ 40 ∷ 38 ∷ 0 ∷
+    tag.element_index ∷ index ∷ 0 ∷ 256 ∷ 41 ∷ 40 ∷ 38 ∷ 0 ∷
     -- 38 next element
-    tag.element-index ∷ index ∷ 0 ∷ 256 ∷ 41 ∷ 134 ∷ 38 ∷ 0 ∷
+    tag.element_index ∷ index ∷ 0 ∷ 256 ∷ 41 ∷ 134 ∷ 38 ∷ 0 ∷
     -- 39 integrity-check
-    tag.integrity-check ∷ span ∷ 1 ∷ 524288 ∷ 40 ∷ 40 ∷ 0 ∷ 0 ∷
+    tag.integrity_check ∷ span ∷ 1 ∷ 524288 ∷ 40 ∷ 40 ∷ 0 ∷ 0 ∷
     -- 40 end
     0 ∷ note ∷ 0 ∷ 0 ∷ 3 ∷ 0 ∷ 0 ∷ 0 ∷
     -- 41 position of a fix
@@ -112,7 +112,7 @@ table =
     -- 51 Mach
     tag.speed ∷ number ∷ 6 ∷ 1 ∷ 110 ∷ 52 ∷ 0 ∷ 0 ∷
     -- 52 speed-type
-    tag.speed-type ∷ reason ∷ 0 ∷ 9 ∷ 111 ∷ 53 ∷ 0 ∷ 0 ∷
+    tag.speed_type ∷ reason ∷ 0 ∷ 9 ∷ 111 ∷ 53 ∷ 0 ∷ 0 ∷
     -- 53 level in feet
     tag.level ∷ number ∷ 0 ∷ 1 ∷ 113 ∷ 54 ∷ 0 ∷ 0 ∷
     -- 54 level in metres
@@ -132,13 +132,13 @@ table =
     -- 61 satellite
     tag.frequency ∷ number ∷ 3 ∷ 1 ∷ 123 ∷ 62 ∷ 0 ∷ 0 ∷
     -- 62 code-digit
-    tag.code-digit ∷ number ∷ 0 ∷ 8 ∷ 128 ∷ 63 ∷ 0 ∷ 0 ∷
+    tag.code_digit ∷ number ∷ 0 ∷ 8 ∷ 128 ∷ 63 ∷ 0 ∷ 0 ∷
     -- 63 traffic-type
     tag.traffic_type ∷ reason ∷ 0 ∷ 6 ∷ 1 ∷ 64 ∷ 0 ∷ 0 ∷
     -- 64 clearance-type
     tag.clearance_type ∷ reason ∷ 0 ∷ 12 ∷ 1 ∷ 65 ∷ 0 ∷ 0 ∷
     -- 65 error-information
-    tag.error-information ∷ reason ∷ 0 ∷ 5 ∷ 1 ∷ 66 ∷ 0 ∷ 0 ∷
+    tag.error_information ∷ reason ∷ 0 ∷ 5 ∷ 1 ∷ 66 ∷ 0 ∷ 0 ∷
     -- 66 facility-function
     tag.facility_function ∷ reason ∷ 0 ∷ 9 ∷ 1 ∷ 67 ∷ 0 ∷ 0 ∷
     -- 67 procedure
@@ -178,19 +178,19 @@ table =
     -- 84 latitude in seconds
     tag.latitude ∷ number ∷ 2 ∷ 1 ∷ 88 ∷ 92 ∷ 0 ∷ 0 ∷
     -- 85 latitude-thousandths
-    tag.latitude-thousandths ∷ number ∷ 0 ∷ 131072 ∷ 91 ∷ 0 ∷ 0 ∷ 0 ∷
+    tag.latitude_thousandths ∷ number ∷ 0 ∷ 131072 ∷ 91 ∷ 0 ∷ 0 ∷ 0 ∷
     -- 86 latitude-degrees, hundredths
-    tag.latitude-degrees ∷ number ∷ 0 ∷ 128 ∷ 87 ∷ 0 ∷ 0 ∷ 0 ∷
+    tag.latitude_degrees ∷ number ∷ 0 ∷ 128 ∷ 87 ∷ 0 ∷ 0 ∷ 0 ∷
     -- 87 latitude-hundredths
-    tag.latitude-hundredths ∷ number ∷ 0 ∷ 8192 ∷ 91 ∷ 0 ∷ 0 ∷ 0 ∷
+    tag.latitude_hundredths ∷ number ∷ 0 ∷ 8192 ∷ 91 ∷ 0 ∷ 0 ∷ 0 ∷
     -- 88 latitude-degrees, seconds
-    tag.latitude-degrees ∷ number ∷ 0 ∷ 128 ∷ 89 ∷ 0 ∷ 0 ∷ 0 ∷
+    tag.latitude_degrees ∷ number ∷ 0 ∷ 128 ∷ 89 ∷ 0 ∷ 0 ∷ 0 ∷
     -- 89 latitude-minutes
-    tag.latitude-minutes ∷ number ∷ 0 ∷ 64 ∷ 90 ∷ 0 ∷ 0 ∷ 0 ∷
+    tag.latitude_minutes ∷ number ∷ 0 ∷ 64 ∷ 90 ∷ 0 ∷ 0 ∷ 0 ∷
     -- 90 latitude-seconds
-    tag.latitude-seconds ∷ number ∷ 0 ∷ 64 ∷ 91 ∷ 0 ∷ 0 ∷ 0 ∷
+    tag.latitude_seconds ∷ number ∷ 0 ∷ 64 ∷ 91 ∷ 0 ∷ 0 ∷ 0 ∷
     -- 91 latitude-side
-    tag.latitude-side ∷ number ∷ 0 ∷ 2 ∷ 92 ∷ 0 ∷ 0 ∷ 0 ∷
+    tag.latitude_side ∷ number ∷ 0 ∷ 2 ∷ 92 ∷ 0 ∷ 0 ∷ 0 ∷
     -- 92 longitude in thousandths
     tag.longitude ∷ number ∷ 0 ∷ 1 ∷ 95 ∷ 93 ∷ 0 ∷ 0 ∷
     -- 93 longitude in hundredths
@@ -198,61 +198,61 @@ table =
     -- 94 longitude in seconds
     tag.longitude ∷ number ∷ 2 ∷ 1 ∷ 98 ∷ 1 ∷ 0 ∷ 0 ∷
     -- 95 longitude-thousandths
-    tag.longitude-thousandths ∷ number ∷ 0 ∷ 262144 ∷ 101 ∷ 0 ∷ 0 ∷ 0 ∷
+    tag.longitude_thousandths ∷ number ∷ 0 ∷ 262144 ∷ 101 ∷ 0 ∷ 0 ∷ 0 ∷
     -- 96 longitude-degrees, hundredths
-    tag.longitude-degrees ∷ number ∷ 0 ∷ 256 ∷ 97 ∷ 0 ∷ 0 ∷ 0 ∷
+    tag.longitude_degrees ∷ number ∷ 0 ∷ 256 ∷ 97 ∷ 0 ∷ 0 ∷ 0 ∷
     -- 97 longitude-hundredths
-    tag.longitude-hundredths ∷ number ∷ 0 ∷ 8192 ∷ 101 ∷ 0 ∷ 0 ∷ 0 ∷
+    tag.longitude_hundredths ∷ number ∷ 0 ∷ 8192 ∷ 101 ∷ 0 ∷ 0 ∷ 0 ∷
     -- 98 longitude-degrees, seconds
-    tag.longitude-degrees ∷ number ∷ 0 ∷ 256 ∷ 99 ∷ 0 ∷ 0 ∷ 0 ∷
+    tag.longitude_degrees ∷ number ∷ 0 ∷ 256 ∷ 99 ∷ 0 ∷ 0 ∷ 0 ∷
     -- 99 longitude-minutes
-    tag.longitude-minutes ∷ number ∷ 0 ∷ 64 ∷ 100 ∷ 0 ∷ 0 ∷ 0 ∷
+    tag.longitude_minutes ∷ number ∷ 0 ∷ 64 ∷ 100 ∷ 0 ∷ 0 ∷ 0 ∷
     -- 100 longitude-seconds
-    tag.longitude-seconds ∷ number ∷ 0 ∷ 64 ∷ 101 ∷ 0 ∷ 0 ∷ 0 ∷
+    tag.longitude_seconds ∷ number ∷ 0 ∷ 64 ∷ 101 ∷ 0 ∷ 0 ∷ 0 ∷
     -- 101 longitude-side
-    tag.longitude-side ∷ number ∷ 0 ∷ 2 ∷ 1 ∷ 0 ∷ 0 ∷ 0 ∷
+    tag.longitude_side ∷ number ∷ 0 ∷ 2 ∷ 1 ∷ 0 ∷ 0 ∷ 0 ∷
     -- 102 indicated speed, number
-    tag.speed-number ∷ number ∷ 0 ∷ 512 ∷ 1 ∷ 0 ∷ 0 ∷ 0 ∷
+    tag.speed_number ∷ number ∷ 0 ∷ 512 ∷ 1 ∷ 0 ∷ 0 ∷ 0 ∷
     -- 103 indicated speed in km/h, number
-    tag.speed-number ∷ number ∷ 0 ∷ 1024 ∷ 1 ∷ 0 ∷ 0 ∷ 0 ∷
+    tag.speed_number ∷ number ∷ 0 ∷ 1024 ∷ 1 ∷ 0 ∷ 0 ∷ 0 ∷
     -- 104 true speed, number
-    tag.speed-number ∷ number ∷ 0 ∷ 2048 ∷ 1 ∷ 0 ∷ 0 ∷ 0 ∷
+    tag.speed_number ∷ number ∷ 0 ∷ 2048 ∷ 1 ∷ 0 ∷ 0 ∷ 0 ∷
     -- 105 true speed in km/h, number
-    tag.speed-number ∷ number ∷ 0 ∷ 4096 ∷ 1 ∷ 0 ∷ 0 ∷ 0 ∷
+    tag.speed_number ∷ number ∷ 0 ∷ 4096 ∷ 1 ∷ 0 ∷ 0 ∷ 0 ∷
     -- 106 ground speed, number
-    tag.speed-number ∷ number ∷ 18446744073709551566 ∷ 50 ∷ 1 ∷ 107 ∷ 0 ∷ 0 ∷
+    tag.speed_number ∷ number ∷ 18446744073709551566 ∷ 50 ∷ 1 ∷ 107 ∷ 0 ∷ 0 ∷
     -- 107 ground speed, number, from zero on
-    tag.speed-number ∷ number ∷ 0 ∷ 4046 ∷ 1 ∷ 0 ∷ 0 ∷ 0 ∷
+    tag.speed_number ∷ number ∷ 0 ∷ 4046 ∷ 1 ∷ 0 ∷ 0 ∷ 0 ∷
     -- 108 ground speed in km/h, number
-    tag.speed-number ∷ number ∷ 18446744073709551516 ∷ 100 ∷ 1 ∷ 109 ∷ 0 ∷ 0 ∷
+    tag.speed_number ∷ number ∷ 18446744073709551516 ∷ 100 ∷ 1 ∷ 109 ∷ 0 ∷ 0 ∷
     -- 109 ground speed in km/h, number, from zero on
-    tag.speed-number ∷ number ∷ 0 ∷ 8092 ∷ 1 ∷ 0 ∷ 0 ∷ 0 ∷
+    tag.speed_number ∷ number ∷ 0 ∷ 8092 ∷ 1 ∷ 0 ∷ 0 ∷ 0 ∷
     -- 110 Mach, number
-    tag.speed-number ∷ number ∷ 500 ∷ 4096 ∷ 1 ∷ 0 ∷ 0 ∷ 0 ∷
+    tag.speed_number ∷ number ∷ 500 ∷ 4096 ∷ 1 ∷ 0 ∷ 0 ∷ 0 ∷
     -- 111 second speed-type
-    tag.speed-type ∷ reason ∷ 0 ∷ 9 ∷ 112 ∷ 1 ∷ 0 ∷ 0 ∷
+    tag.speed_type ∷ reason ∷ 0 ∷ 9 ∷ 112 ∷ 1 ∷ 0 ∷ 0 ∷
     -- 112 third speed-type
-    tag.speed-type ∷ reason ∷ 0 ∷ 9 ∷ 1 ∷ 0 ∷ 0 ∷ 0 ∷
+    tag.speed_type ∷ reason ∷ 0 ∷ 9 ∷ 1 ∷ 0 ∷ 0 ∷ 0 ∷
     -- 113 level in feet, number
-    tag.level-number ∷ number ∷ 18446744073709551556 ∷ 60 ∷ 1 ∷ 114 ∷ 0 ∷ 0 ∷
+    tag.level_number ∷ number ∷ 18446744073709551556 ∷ 60 ∷ 1 ∷ 114 ∷ 0 ∷ 0 ∷
     -- 114 level in feet, number, from zero on
-    tag.level-number ∷ number ∷ 0 ∷ 8132 ∷ 1 ∷ 0 ∷ 0 ∷ 0 ∷
+    tag.level_number ∷ number ∷ 0 ∷ 8132 ∷ 1 ∷ 0 ∷ 0 ∷ 0 ∷
     -- 115 level in metres, number
-    tag.level-number ∷ number ∷ 18446744073709551586 ∷ 30 ∷ 1 ∷ 116 ∷ 0 ∷ 0 ∷
+    tag.level_number ∷ number ∷ 18446744073709551586 ∷ 30 ∷ 1 ∷ 116 ∷ 0 ∷ 0 ∷
     -- 116 level in metres, number, from zero on
-    tag.level-number ∷ number ∷ 0 ∷ 32738 ∷ 1 ∷ 0 ∷ 0 ∷ 0 ∷
+    tag.level_number ∷ number ∷ 0 ∷ 32738 ∷ 1 ∷ 0 ∷ 0 ∷ 0 ∷
     -- 117 flight level, number
-    tag.level-number ∷ number ∷ 30 ∷ 1024 ∷ 1 ∷ 0 ∷ 0 ∷ 0 ∷
+    tag.level_number ∷ number ∷ 30 ∷ 1024 ∷ 1 ∷ 0 ∷ 0 ∷ 0 ∷
     -- 118 metric flight level, number
-    tag.level-number ∷ number ∷ 100 ∷ 4096 ∷ 1 ∷ 0 ∷ 0 ∷ 0 ∷
+    tag.level_number ∷ number ∷ 100 ∷ 4096 ∷ 1 ∷ 0 ∷ 0 ∷ 0 ∷
     -- 119 degrees-number
-    tag.degrees-number ∷ number ∷ 1 ∷ 512 ∷ 1 ∷ 0 ∷ 0 ∷ 0 ∷
+    tag.degrees_number ∷ number ∷ 1 ∷ 512 ∷ 1 ∷ 0 ∷ 0 ∷ 0 ∷
     -- 120 HF, number
-    tag.frequency-number ∷ number ∷ 2850 ∷ 32768 ∷ 1 ∷ 0 ∷ 0 ∷ 0 ∷
+    tag.frequency_number ∷ number ∷ 2850 ∷ 32768 ∷ 1 ∷ 0 ∷ 0 ∷ 0 ∷
     -- 121 VHF, number
-    tag.frequency-number ∷ number ∷ 23600 ∷ 4096 ∷ 1 ∷ 0 ∷ 0 ∷ 0 ∷
+    tag.frequency_number ∷ number ∷ 23600 ∷ 4096 ∷ 1 ∷ 0 ∷ 0 ∷ 0 ∷
     -- 122 UHF, number
-    tag.frequency-number ∷ number ∷ 9000 ∷ 8192 ∷ 1 ∷ 0 ∷ 0 ∷ 0 ∷
+    tag.frequency_number ∷ number ∷ 9000 ∷ 8192 ∷ 1 ∷ 0 ∷ 0 ∷ 0 ∷
     -- 123 satellite-channel
     tag.satellite_channel ∷ channel ∷ 8 ∷ 0 ∷ 124 ∷ 0 ∷ 0 ∷ 0 ∷
     -- 124 satellite-channel of digits
@@ -264,61 +264,61 @@ table =
     -- 127 satellite-channel-x691, its end
     tag.satellite_channel_x691 ∷ spaced ∷ 4 ∷ 0 ∷ 1 ∷ 0 ∷ 0 ∷ 0 ∷
     -- 128 second code-digit
-    tag.code-digit ∷ number ∷ 0 ∷ 8 ∷ 129 ∷ 0 ∷ 0 ∷ 0 ∷
+    tag.code_digit ∷ number ∷ 0 ∷ 8 ∷ 129 ∷ 0 ∷ 0 ∷ 0 ∷
     -- 129 third code-digit
-    tag.code-digit ∷ number ∷ 0 ∷ 8 ∷ 130 ∷ 0 ∷ 0 ∷ 0 ∷
+    tag.code_digit ∷ number ∷ 0 ∷ 8 ∷ 130 ∷ 0 ∷ 0 ∷ 0 ∷
     -- 130 fourth code-digit
-    tag.code-digit ∷ number ∷ 0 ∷ 8 ∷ 1 ∷ 0 ∷ 0 ∷ 0 ∷
+    tag.code_digit ∷ number ∷ 0 ∷ 8 ∷ 1 ∷ 0 ∷ 0 ∷ 0 ∷
     -- 131 procedure-name
-    tag.procedure-name ∷ text ∷ 1 ∷ 32 ∷ 132 ∷ 0 ∷ 0 ∷ 0 ∷
+    tag.procedure_name ∷ text ∷ 1 ∷ 32 ∷ 132 ∷ 0 ∷ 0 ∷ 0 ∷
     -- 132 procedure-transition
-    tag.procedure-transition ∷ text ∷ 1 ∷ 8 ∷ 1 ∷ 1 ∷ 0 ∷ 0 ∷
+    tag.procedure_transition ∷ text ∷ 1 ∷ 8 ∷ 1 ∷ 1 ∷ 0 ∷ 0 ∷
     -- 133 runway-side
-    tag.runway-side ∷ number ∷ 0 ∷ 4 ∷ 1 ∷ 0 ∷ 0 ∷ 0 ∷
+    tag.runway_side ∷ number ∷ 0 ∷ 4 ∷ 1 ∷ 0 ∷ 0 ∷ 0 ∷
     -- 134 clearance
     tag.clearance ∷ clearance ∷ 0 ∷ 2 ∷ 135 ∷ 2 ∷ 0 ∷ 0 ∷
     -- 135 departure-airport
-    tag.departure-airport ∷ text ∷ 4 ∷ 1 ∷ 136 ∷ 136 ∷ 0 ∷ 0 ∷
+    tag.departure_airport ∷ text ∷ 4 ∷ 1 ∷ 136 ∷ 136 ∷ 0 ∷ 0 ∷
     -- 136 destination-airport
     tag.destination_airport ∷ text ∷ 4 ∷ 1 ∷ 137 ∷ 137 ∷ 0 ∷ 0 ∷
     -- 137 departure-runway
-    tag.departure-runway ∷ number ∷ 1 ∷ 64 ∷ 138 ∷ 139 ∷ 0 ∷ 0 ∷
+    tag.departure_runway ∷ number ∷ 1 ∷ 64 ∷ 138 ∷ 139 ∷ 0 ∷ 0 ∷
     -- 138 departure-runway-side
-    tag.departure-runway-side ∷ number ∷ 0 ∷ 4 ∷ 139 ∷ 0 ∷ 0 ∷ 0 ∷
+    tag.departure_runway_side ∷ number ∷ 0 ∷ 4 ∷ 139 ∷ 0 ∷ 0 ∷ 0 ∷
     -- 139 departure-procedure
-    tag.departure-procedure ∷ number ∷ 0 ∷ 3 ∷ 140 ∷ 148 ∷ 0 ∷ 0 ∷
+    tag.departure_procedure ∷ number ∷ 0 ∷ 3 ∷ 140 ∷ 148 ∷ 0 ∷ 0 ∷
     -- 140 departure-procedure-name
-    tag.departure-procedure-name ∷ text ∷ 1 ∷ 32 ∷ 141 ∷ 0 ∷ 0 ∷ 0 ∷
+    tag.departure_procedure_name ∷ text ∷ 1 ∷ 32 ∷ 141 ∷ 0 ∷ 0 ∷ 0 ∷
     -- 141 departure-procedure-transition
-    tag.departure-procedure-transition ∷ text ∷ 1 ∷ 8 ∷ 148 ∷ 148 ∷ 0 ∷ 0 ∷
+    tag.departure_procedure_transition ∷ text ∷ 1 ∷ 8 ∷ 148 ∷ 148 ∷ 0 ∷ 0 ∷
     -- 142 approach-procedure
     tag.approach_procedure ∷ number ∷ 0 ∷ 3 ∷ 143 ∷ 145 ∷ 0 ∷ 0 ∷
     -- 143 approach-procedure-name
-    tag.approach_procedure-name ∷ text ∷ 1 ∷ 32 ∷ 144 ∷ 0 ∷ 0 ∷ 0 ∷
+    tag.approach_procedure_name ∷ text ∷ 1 ∷ 32 ∷ 144 ∷ 0 ∷ 0 ∷ 0 ∷
     -- 144 approach-procedure-transition
-    tag.approach_procedure-transition ∷ text ∷ 1 ∷ 8 ∷ 145 ∷ 145 ∷ 0 ∷ 0 ∷
+    tag.approach_procedure_transition ∷ text ∷ 1 ∷ 8 ∷ 145 ∷ 145 ∷ 0 ∷ 0 ∷
     -- 145 arrival-procedure
     tag.arrival_procedure ∷ number ∷ 0 ∷ 3 ∷ 146 ∷ 150 ∷ 0 ∷ 0 ∷
     -- 146 arrival-procedure-name
-    tag.arrival_procedure-name ∷ text ∷ 1 ∷ 32 ∷ 147 ∷ 0 ∷ 0 ∷ 0 ∷
+    tag.arrival_procedure_name ∷ text ∷ 1 ∷ 32 ∷ 147 ∷ 0 ∷ 0 ∷ 0 ∷
     -- 147 arrival-procedure-transition
-    tag.arrival_procedure-transition ∷ text ∷ 1 ∷ 8 ∷ 150 ∷ 150 ∷ 0 ∷ 0 ∷
+    tag.arrival_procedure_transition ∷ text ∷ 1 ∷ 8 ∷ 150 ∷ 150 ∷ 0 ∷ 0 ∷
     -- 148 arrival-runway
     tag.arrival_runway ∷ number ∷ 1 ∷ 64 ∷ 149 ∷ 142 ∷ 0 ∷ 0 ∷
     -- 149 arrival-runway-side
-    tag.arrival_runway-side ∷ number ∷ 0 ∷ 4 ∷ 142 ∷ 0 ∷ 0 ∷ 0 ∷
+    tag.arrival_runway_side ∷ number ∷ 0 ∷ 4 ∷ 142 ∷ 0 ∷ 0 ∷ 0 ∷
     -- 150 leg
     tag.leg ∷ place ∷ 0 ∷ 128 ∷ 152 ∷ 151 ∷ 0 ∷ 0 ∷
     -- 151 additional
     tag.additional ∷ number ∷ 1 ∷ 1 ∷ 134 ∷ 134 ∷ 0 ∷ 0 ∷
     -- 152 leg by a place
-    tag.route-information ∷ number ∷ 0 ∷ 1 ∷ 157 ∷ 153 ∷ 150 ∷ 0 ∷
+    tag.route_information ∷ number ∷ 0 ∷ 1 ∷ 157 ∷ 153 ∷ 150 ∷ 0 ∷
     -- 153 leg by coordinates
-    tag.route-information ∷ number ∷ 1 ∷ 1 ∷ 81 ∷ 154 ∷ 150 ∷ 0 ∷
+    tag.route_information ∷ number ∷ 1 ∷ 1 ∷ 81 ∷ 154 ∷ 150 ∷ 0 ∷
     -- 154 leg by two places
-    tag.route-information ∷ number ∷ 2 ∷ 1 ∷ 157 ∷ 155 ∷ 163 ∷ 0 ∷
+    tag.route_information ∷ number ∷ 2 ∷ 1 ∷ 157 ∷ 155 ∷ 163 ∷ 0 ∷
     -- 155 leg by a route
-    tag.route-information ∷ number ∷ 4 ∷ 1 ∷ 156 ∷ 0 ∷ 0 ∷ 0 ∷
+    tag.route_information ∷ number ∷ 4 ∷ 1 ∷ 156 ∷ 0 ∷ 0 ∷ 0 ∷
     -- 156 route-designator
     tag.route_designator ∷ text ∷ 2 ∷ 8 ∷ 150 ∷ 0 ∷ 0 ∷ 0 ∷
     -- 157 published fix
@@ -330,9 +330,9 @@ table =
     -- 160 second place, a navaid
     tag.published ∷ number ∷ 1 ∷ 1 ∷ 162 ∷ 0 ∷ 164 ∷ 0 ∷
     -- 161 published-fix
-    tag.published-fix ∷ text ∷ 1 ∷ 8 ∷ 80 ∷ 0 ∷ 0 ∷ 0 ∷
+    tag.published_fix ∷ text ∷ 1 ∷ 8 ∷ 80 ∷ 0 ∷ 0 ∷ 0 ∷
     -- 162 published-navaid
-    tag.published-navaid ∷ text ∷ 1 ∷ 4 ∷ 80 ∷ 0 ∷ 0 ∷ 0 ∷
+    tag.published_navaid ∷ text ∷ 1 ∷ 4 ∷ 80 ∷ 0 ∷ 0 ∷ 0 ∷
     -- 163 first bearing
     tag.degrees ∷ number ∷ 0 ∷ 2 ∷ 119 ∷ 0 ∷ 159 ∷ 0 ∷
     -- 164 second bearing
@@ -352,9 +352,9 @@ table =
     -- 171 cm-aircraft abort
     tag.cm_aircraft_pdu ∷ number ∷ 2 ∷ 1 ∷ 172 ∷ 191 ∷ 0 ∷ 0 ∷
     -- 172 cm-abort-reason
-    tag.cm-abort-reason ∷ reason ∷ 0 ∷ 16 ∷ 40 ∷ 0 ∷ 0 ∷ 0 ∷
+    tag.cm_abort_reason ∷ reason ∷ 0 ∷ 16 ∷ 40 ∷ 0 ∷ 0 ∷ 0 ∷
     -- 173 cm-forward-response
-    tag.cm-forward_response ∷ number ∷ 0 ∷ 4 ∷ 40 ∷ 0 ∷ 0 ∷ 0 ∷
+    tag.cm_forward_response ∷ number ∷ 0 ∷ 4 ∷ 40 ∷ 0 ∷ 0 ∷ 0 ∷
     -- 174 contact-response
     tag.contact_response ∷ number ∷ 0 ∷ 2 ∷ 40 ∷ 0 ∷ 0 ∷ 0 ∷
     -- 175 ground-only-initiated
@@ -376,29 +376,29 @@ table =
     -- 183 air-only-initiated
     tag.air_only_initiated ∷ place ∷ 0 ∷ 256 ∷ 176 ∷ 184 ∷ 183 ∷ 0 ∷
     -- 184 airport-departure
-    tag.airport-departure ∷ text ∷ 4 ∷ 1 ∷ 185 ∷ 185 ∷ 0 ∷ 0 ∷
+    tag.airport_departure ∷ text ∷ 4 ∷ 1 ∷ 185 ∷ 185 ∷ 0 ∷ 0 ∷
     -- 185 airport-destination
     tag.airport_destination ∷ text ∷ 4 ∷ 1 ∷ 186 ∷ 186 ∷ 0 ∷ 0 ∷
     -- 186 etd-year
-    tag.etd-year ∷ number ∷ 1996 ∷ 128 ∷ 187 ∷ 40 ∷ 0 ∷ 0 ∷
+    tag.etd_year ∷ number ∷ 1996 ∷ 128 ∷ 187 ∷ 40 ∷ 0 ∷ 0 ∷
     -- 187 etd-month
-    tag.etd-month ∷ number ∷ 1 ∷ 16 ∷ 188 ∷ 0 ∷ 0 ∷ 0 ∷
+    tag.etd_month ∷ number ∷ 1 ∷ 16 ∷ 188 ∷ 0 ∷ 0 ∷ 0 ∷
     -- 188 etd-day
-    tag.etd-day ∷ number ∷ 1 ∷ 32 ∷ 189 ∷ 0 ∷ 0 ∷ 0 ∷
+    tag.etd_day ∷ number ∷ 1 ∷ 32 ∷ 189 ∷ 0 ∷ 0 ∷ 0 ∷
     -- 189 etd-hours
-    tag.etd-hours ∷ number ∷ 0 ∷ 32 ∷ 190 ∷ 0 ∷ 0 ∷ 0 ∷
+    tag.etd_hours ∷ number ∷ 0 ∷ 32 ∷ 190 ∷ 0 ∷ 0 ∷ 0 ∷
     -- 190 etd-minutes
-    tag.etd-minutes ∷ number ∷ 0 ∷ 64 ∷ 40 ∷ 0 ∷ 0 ∷ 0 ∷
+    tag.etd_minutes ∷ number ∷ 0 ∷ 64 ∷ 40 ∷ 0 ∷ 0 ∷ 0 ∷
     -- 191 aarq or aare
-    tag.acse-pdu ∷ number ∷ 0 ∷ 2 ∷ 40 ∷ 192 ∷ 0 ∷ 0 ∷
+    tag.acse_pdu ∷ number ∷ 0 ∷ 2 ∷ 40 ∷ 192 ∷ 0 ∷ 0 ∷
     -- 192 rlrq
-    tag.acse-pdu ∷ number ∷ 2 ∷ 1 ∷ 196 ∷ 193 ∷ 0 ∷ 0 ∷
+    tag.acse_pdu ∷ number ∷ 2 ∷ 1 ∷ 196 ∷ 193 ∷ 0 ∷ 0 ∷
     -- 193 rlre
-    tag.acse-pdu ∷ number ∷ 3 ∷ 1 ∷ 197 ∷ 194 ∷ 0 ∷ 0 ∷
+    tag.acse_pdu ∷ number ∷ 3 ∷ 1 ∷ 197 ∷ 194 ∷ 0 ∷ 0 ∷
     -- 194 abrt
-    tag.acse-pdu ∷ number ∷ 4 ∷ 1 ∷ 198 ∷ 195 ∷ 0 ∷ 0 ∷
+    tag.acse_pdu ∷ number ∷ 4 ∷ 1 ∷ 198 ∷ 195 ∷ 0 ∷ 0 ∷
     -- 195 acse extension-alternative
-    tag.acse-pdu ∷ note ∷ 0 ∷ 1 ∷ 40 ∷ 0 ∷ 0 ∷ 0 ∷
+    tag.acse_pdu ∷ note ∷ 0 ∷ 1 ∷ 40 ∷ 0 ∷ 0 ∷ 0 ∷
     -- 196 release-request-reason
     tag.release_request_reason ∷ release ∷ 0 ∷ 32 ∷ 40 ∷ 40 ∷ 0 ∷ 0 ∷
     -- 197 release-response-reason

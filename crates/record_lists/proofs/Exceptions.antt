@@ -35,9 +35,9 @@ elements_firm (k ∷ table) = rw (argument_firm k, elements_firm table) refl
 ---------------------------------------------------------------- messages
 
 module _ (table : List ℕ) where
-  elements-plain : (vs : Value (type_of (many 1 5 (element (choice tag.element-index (elements table)))))) → Plain (many 1 5 (element (choice tag.element-index (elements table)))) vs (0, 0)
+  elements-plain : (vs : Value (type_of (many 1 5 (element (choice tag.element_index (elements table)))))) → Plain (many 1 5 (element (choice tag.element_index (elements table)))) vs (0, 0)
   unfolding firm
-  elements-plain vs = plain-all (many 1 5 (element (choice tag.element-index (elements table)))) vs (0, 0) (elements_firm table)
+  elements-plain vs = plain-all (many 1 5 (element (choice tag.element_index (elements table)))) vs (0, 0) (elements_firm table)
 
   constrained_plain : (c : Value (type_of constrained_data)) → Plain constrained_data c (0, 0)
   unfolding firm solid

@@ -1,10 +1,10 @@
 -- Formats all of whose values are plain, by a test of the format: the messages of CM and of association control.
-use mathlib.Core.Path.{◌≡◌, refl, sym, ap, ◌∙◌}
+use mathlib.Core.Path.{◌≡◌, refl}
 use mathlib.Core.Bool.{Bool, true, false, ◌&&◌, false≢true}
-use mathlib.Core.Option.{Option, none, some}
-use mathlib.Core.Logic.{◌⊎◌, inl, inr}
+use mathlib.Core.Option.{none, some}
+use mathlib.Core.Logic.{inl, inr}
 use mathlib.Core.List.{List, [], ◌∷◌}
-use Prim.Native.Nat.{ℕ, zero, suc}
+use Prim.Native.Nat.{ℕ, suc}
 use Rattle.x691.specs.Types.{Value, Values, Pick}
 use Rattle.x691.specs.Range.{member}
 use Rattle.atn.specs.Format.{Fmt, num, listed, name, text, span, any_span, skipped, small, null, noted, placed, marked, refuse, element, ext, seq, loose, choice, many, inner, soft, lax}
@@ -13,7 +13,7 @@ use Rattle.atn.specs.Messages.{cm_ground, cm_aircraft, acse}
 use Rattle.atn.specs.Reading.{Ctx}
 use Rattle.atn.proofs.Inverse.{both}
 use Rattle.record_lists.specs.Clear.{solid, firsts, single, unlike}
-use Rattle.record_lists.specs.Plain.{Says, Unless, AllFrom, Plain, PlainFields, PlainPick}
+use Rattle.record_lists.specs.Plain.{Unless, AllFrom, Plain, PlainFields, PlainPick}
 
 -- every optional part shows something, and what stands for an absent one is never shown by one that is there
 unfoldable mutual

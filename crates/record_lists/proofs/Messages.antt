@@ -28,25 +28,25 @@ clear-elements sp G [] h = refl
 clear-elements sp G (k ∷ table) h = rw (clear-argument sp G k h) (clear-elements sp G table h)
 
 -- what the elements of a message may have behind them: another, a clearance, and the integrity check
-protected-arguments : every (λ f. clear span_tag f (tag.element-index ∷ tag.clearance ∷ tag.integrity-check ∷ [])) arguments ≡ true
+protected-arguments : every (λ f. clear span_tag f (tag.element_index ∷ tag.clearance ∷ tag.integrity_check ∷ [])) arguments ≡ true
 unfolding every clear solid firsts apart ahead span_tag member
 protected-arguments = refl
 
-carried-arguments : every (λ f. clear span_tag f (tag.element-index ∷ tag.clearance ∷ [])) arguments ≡ true
+carried-arguments : every (λ f. clear span_tag f (tag.element_index ∷ tag.clearance ∷ [])) arguments ≡ true
 unfolding every clear solid firsts apart ahead span_tag member
 carried-arguments = refl
 
 clear_aircraft : (down : List ℕ) → clear span_tag (aircraft_pdus down) [] ≡ true
 unfolding clear solid firsts apart ahead span_tag member
-clear_aircraft down = rw (clear-elements span_tag (tag.element-index ∷ tag.clearance ∷ tag.integrity-check ∷ []) down protected-arguments)
+clear_aircraft down = rw (clear-elements span_tag (tag.element_index ∷ tag.clearance ∷ tag.integrity_check ∷ []) down protected-arguments)
 
 clear_ground : (down up : List ℕ) → clear span_tag (ground_pdus down up) [] ≡ true
 unfolding clear solid firsts apart ahead span_tag member
 clear_ground down up =
     rw (
-      clear-elements span_tag (tag.element-index ∷ tag.clearance ∷ tag.integrity-check ∷ []) up protected-arguments,
-      clear-elements span_tag (tag.element-index ∷ tag.clearance ∷ []) up carried-arguments,
-      clear-elements span_tag (tag.element-index ∷ tag.clearance ∷ []) down carried-arguments,
+      clear-elements span_tag (tag.element_index ∷ tag.clearance ∷ tag.integrity_check ∷ []) up protected-arguments,
+      clear-elements span_tag (tag.element_index ∷ tag.clearance ∷ []) up carried-arguments,
+      clear-elements span_tag (tag.element_index ∷ tag.clearance ∷ []) down carried-arguments,
     )
 
 clear-cm : (d : ℕ) → clear span_tag (cm_of d) [] ≡ true

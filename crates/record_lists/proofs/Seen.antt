@@ -1,18 +1,17 @@
 -- The records of a message in the frame show what its value shows, and its spans lie inside.
-use mathlib.Core.Path.{◌≡◌, refl, sym, ap, ◌∙◌}
-use mathlib.Core.Bool.{Bool, true, false, cond, not, ◌&&◌, ◌||◌}
+use mathlib.Core.Path.{◌≡◌, refl, ◌∙◌}
+use mathlib.Core.Bool.{Bool, true, not, ◌&&◌, ◌||◌}
 use mathlib.Core.Option.{Option, none, some}
-use mathlib.Core.Logic.{◌⊎◌, inl, inr}
+use mathlib.Core.Logic.{inl, inr}
 use mathlib.Core.List.{List, [], ◌∷◌, ◌++◌}
 use Prim.Native.Nat.{ℕ, zero, suc, ◌+◌, ◌-◌, ◌*◌, ◌/◌, ◌^◌, ◌≤◌, ◌<◌}
 use native.Mathlib.Omega.{arith}
-use native.Mathlib.Nat.{add-zero}
 use native.Mathlib.Numerals.{add-one}
 use lib.ListN.{length, drop, length-append}
 use lib.Dec.{leb}
 use borrow.Author.Tests.{not-true, le-leb, leb-true}
 use Rattle.x691.specs.Bits.{bits_of, Spells, stretch}
-use Rattle.x691.specs.Types.{Value, Values, Pick, extent}
+use Rattle.x691.specs.Types.{Value, Values, Pick}
 use Rattle.x691.specs.Encoding.{width, highest, length_bits, size_bits, unit_bits, joined, if_any, preamble, encode, encode_members, encode_pick, index}
 use Rattle.x691.specs.Range.{member, All, IfAny, InRange, AllInRange, PickInRange}
 use Rattle.x691.proofs.BitLaws.{length-bits_of, spells_fst, spells_snd}
@@ -24,7 +23,7 @@ use Rattle.atn.specs.Told.{tell_any, tell_all, tell, tell_fields, tell_pick}
 use Rattle.atn.proofs.Inverse.{both}
 use Rattle.atn.proofs.Steps.{length-size}
 use Rattle.atn.proofs.Complete.{length-preamble}
-use Rattle.record_lists.specs.Items.{Item, plain, bits, look, inside}
+use Rattle.record_lists.specs.Items.{Item, plain, look, inside}
 use Rattle.record_lists.specs.Shown.{packed, spelt, in_letters, spanned, show_any, show_all, shown, shown_fields, shown_pick}
 use Rattle.record_lists.specs.Clear.{apart, solid, solid_fields, firsts, firsts_fields, ahead, clear, clear_letters, clear_fields, clear_alts}
 use Rattle.record_lists.proofs.First.{length-span}

@@ -1,6 +1,6 @@
 -- What a list of records shows: of a span not where its bits are, but which they are; of no record the bit where its field starts.
 -- "Spans may move but show the same bits", and the writer "ignores the fifth word".
-use Rattle.std.specs.Prelude.{Bool, true, false, cond, not, ◌&&◌, ◌||◌, List, [], ◌∷◌, ℕ, zero, suc, ◌+◌, leb}
+use Rattle.std.specs.Prelude.{Bool, true, cond, not, ◌&&◌, ◌||◌, List, [], ◌∷◌, ℕ, ◌+◌, leb}
 use Rattle.x691.specs.Bits.{stretch}
 use Rattle.atn.specs.Reading.{Rec, rec}
 

@@ -9,7 +9,7 @@ use Rattle.atn.specs.Entries.{pdus, cm_of}
 
 -- the tags of spans
 unfoldable pub span_tag : ℕ → Bool
-span_tag t = member t (tag.integrity-check ∷ tag.aircraft_address ∷ tag.rdp ∷ tag.ars ∷ tag.loc_sys_nsel_tsel ∷ [])
+span_tag t = member t (tag.integrity_check ∷ tag.aircraft_address ∷ tag.rdp ∷ tag.ars ∷ tag.loc_sys_nsel_tsel ∷ [])
 
 -- what association control says has no direction
 unfoldable pub kind_of : ℕ → ℕ → List ℕ → List ℕ → Option Fmt

@@ -1,7 +1,6 @@
 -- The values that a list gives back: those with no default written out, and no part that is there and shows nothing (empty
 -- constrained data). Two values show the same where one of them has such a part: request a) of document 02 leaves these out.
 use Rattle.std.specs.Prelude.{◌≡◌, Bool, true, false, List, [], ◌∷◌, ℕ, suc}
-use Rattle.std.proofs.Math.Option.{Option}
 use Rattle.std.proofs.Common.{inl, inr}
 use Rattle.x691.specs.Types.{Value, Values, Pick}
 use Rattle.x691.specs.Range.{IfAny}

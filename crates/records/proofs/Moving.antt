@@ -1,5 +1,5 @@
 -- Records that were told are told with their places moved.
-use Rattle.std.proofs.Common.{◌≡◌, ℕ, zero, suc, ◌+◌, ◌-◌, ◌%◌, ◌^◌, ◌<◌, ◌≤◌, List, [], ◌∷◌, ◌++◌, length, get_or, take, drop, set, sym, refl, ap, ◌∙◌, append_assoc, arith, length-append, length-set, take-append-drop, length-take-le, take_at}
+use Rattle.std.proofs.Common.{◌≡◌, ℕ, zero, suc, ◌+◌, ◌-◌, ◌%◌, ◌^◌, ◌<◌, ◌≤◌, List, [], ◌∷◌, ◌++◌, length, get_or, take, drop, sym, refl, ap, ◌∙◌, append_assoc, arith, length-append, length-set, take-append-drop, length-take-le, take_at}
 use lib.Seq.{set_out, set_at, get_or_at, take-set-le}
 use Rattle.atn.specs.Reading.{Rec, rec, word}
 use Rattle.atn.specs.Entries.{flat, need}
@@ -10,7 +10,7 @@ use Rattle.atn.proofs.Outcomes.{flat-need}
 use Rattle.records.specs.Space.{size, space}
 use Rattle.records.specs.Told.{Told}
 use Rattle.records.specs.Moves.{relocated, raised, raised_places}
-use Rattle.records.proofs.Sizes.{flat-length, need-space}
+use Rattle.records.proofs.Sizes.{need-space}
 
 ---------------------------------------------------------------- words
 

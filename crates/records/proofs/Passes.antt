@@ -1,6 +1,6 @@
 -- The passes of an entry, and what `settle` says of them. The first decides, and leaves the words, v, as they came, w. The second is lent as many
 -- of them as the records need, and is run only where the reading is accepted and its records fit.
-use Rattle.std.proofs.Common.{◌≡◌, ℕ, ◌<◌, ◌≤◌, Bool, List, ◌++◌, length, take, drop, sym, ap, ◌∙◌, le_refl, zero-add, arith, length-take-le, take_all, le-leb}
+use Rattle.std.proofs.Common.{◌≡◌, ℕ, ◌<◌, ◌≤◌, Bool, List, ◌++◌, length, take, drop, sym, ap, ◌∙◌, zero-add, arith, length-take-le, take_all, le-leb}
 use borrow.Author.Tests.{lt-leb}
 use Rattle.atn.specs.Reading.{Rec}
 use Rattle.atn.specs.Entries.{Reply, accept, ran_out, badly, unsupplied, accepted, refused, Outcome, flat, need, settle}

@@ -1,4 +1,6 @@
 // The writer of fixture frames on whole frames: a case a line in, as `entry_lines` takes it; out, a line that says whether the records of the frame, where it is a clean message, are written as the same bits. tools/rewrite-expected has the form of the answers and makes the file `stdout`.
+#![tactic(auto)]
+
 ghost use Rattle.std.specs.Prelude.{◌≤◌, length};
 ghost use Rattle.line_flow.specs.Flow.{Runs};
 

@@ -5,15 +5,15 @@ use Rattle.atn.specs.Tags as tag
 
 abbrev pub departure_fields : Flds
 departure_fields =
-    message.ia5 tag.departure-airport 4 4
+    message.ia5 tag.departure_airport 4 4
     ⨾? message.ia5 tag.destination_airport 4 4
-    ⨾? message.runway tag.departure-runway tag.departure-runway-side
-    ⨾? message.procedure tag.departure-procedure tag.departure-procedure-name tag.departure-procedure-transition
+    ⨾? message.runway tag.departure_runway tag.departure_runway_side
+    ⨾? message.procedure tag.departure_procedure tag.departure_procedure_name tag.departure_procedure_transition
     ⨾? end
 
 abbrev pub arrival_fields : Flds
 arrival_fields =
-    message.runway tag.arrival_runway tag.arrival_runway-side
-    ⨾? message.procedure tag.approach_procedure tag.approach_procedure-name tag.approach_procedure-transition
-    ⨾? message.procedure tag.arrival_procedure tag.arrival_procedure-name tag.arrival_procedure-transition
+    message.runway tag.arrival_runway tag.arrival_runway_side
+    ⨾? message.procedure tag.approach_procedure tag.approach_procedure_name tag.approach_procedure_transition
+    ⨾? message.procedure tag.arrival_procedure tag.arrival_procedure_name tag.arrival_procedure_transition
     ⨾? end

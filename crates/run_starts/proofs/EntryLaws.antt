@@ -5,7 +5,7 @@ use mathlib.Core.List.{List, [], ◌∷◌, ◌++◌}
 use Prim.Native.Nat.{ℕ, ◌≤◌, ◌<◌}
 use lib.ListN.{length, drop}
 use borrow.Author.Tests.{le-leb, lt-leb, lt-ltb, le-ltb}
-use Rattle.atn.specs.Entries.{frame-fits, table_fits, direction-fits}
+use Rattle.atn.specs.Entries.{frame_fits, table_fits, direction_fits}
 use Rattle.message_runs.specs.declared.Kind.{Kind}
 use Rattle.message_runs.specs.declared.Starts.{Starts}
 use Rattle.message_runs.specs.declared.Starts.TheVariants.{All, UpTo, Refused}
@@ -51,19 +51,19 @@ module _ {c : Cutting} {r : Found} {x : List ℕ} (first : Walked c r [] x) (s w
 
 module _ (k : Kind) (d : ℕ) (down up s w : List ℕ) where
   pub too_long : 65536 < length s → ◌≡◌ {A = Outcome} (Refused 1 0, w) (list_starts k d down up s w)
-  unfolding list_starts frame-fits
+  unfolding list_starts frame_fits
   too_long h = rw (lt-leb (length s) 65536 h)
 
   module _ (h : length s ≤ 65536) where
     pub bad-tables : (table_fits down && table_fits up) ≡ false → ◌≡◌ {A = Outcome} (Refused 2 0, w) (list_starts k d down up s w)
-    unfolding list_starts frame-fits
+    unfolding list_starts frame_fits
     bad-tables t = rw (le-leb (length s) 65536 h, t)
 
     module _ (t : (table_fits down && table_fits up) ≡ true) where
       pub bad-direction : 1 < d → ◌≡◌ {A = Outcome} (Refused 3 0, w) (list_starts k d down up s w)
-      unfolding list_starts frame-fits direction-fits
+      unfolding list_starts frame_fits direction_fits
       bad-direction l = rw (le-leb (length s) 65536 h, t, lt-leb d 1 l)
 
       pub decided : {o : Outcome} → d ≤ 1 → o ≡ listed (cut (format_of k d down up) s) s w → o ≡ list_starts k d down up s w
-      unfolding list_starts frame-fits direction-fits
+      unfolding list_starts frame_fits direction_fits
       decided l e = e ∙ rw (le-leb (length s) 65536 h, t, le-leb d 1 l)

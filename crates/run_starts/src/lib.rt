@@ -1,4 +1,6 @@
 // Where the messages of a run start: clean messages of one kind, back to back, each padded to a byte with bits that are not looked at.
+#![tactic(auto)]
+
 ghost use Rattle.std.specs.Prelude.{◌≡◌, ◌≤◌, length};
 ghost use Rattle.message_runs.specs.Runs.{format_of, cut, list_starts};
 ghost use Rattle.message_runs.specs.declared.Starts.TheVariants.{Refused};

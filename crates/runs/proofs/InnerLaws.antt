@@ -1,15 +1,14 @@
 -- An inner string is read as a part of the frame by itself, from its first byte, and closed.
-use mathlib.Core.Path.{◌≡◌, refl, sym, ap, ◌∙◌}
-use mathlib.Core.Bool.{Bool, true, false}
+use mathlib.Core.Path.{◌≡◌, refl, ap, ◌∙◌}
+use mathlib.Core.Bool.{true, false}
 use mathlib.Core.List.{List, []}
-use Prim.Native.Nat.{ℕ, ◌+◌, ◌-◌, ◌*◌, ◌/◌, ◌%◌, ◌^◌, ◌≤◌, ◌<◌}
+use Prim.Native.Nat.{ℕ, ◌+◌, ◌-◌, ◌*◌, ◌/◌, ◌%◌, ◌≤◌, ◌<◌}
 use native.Mathlib.Omega.{arith}
 use lib.ListN.{length, take, drop, length-take, length-drop}
 use lib.Dec.{eqb}
-use borrow.Author.Tests.{eq-eqb}
 use Rattle.x691.specs.Bits.{bit_of, uint}
-use Rattle.atn.specs.Format.{Fmt, Why, out, bad, lack, quit, inner}
-use Rattle.atn.specs.Reading.{Rec, Ctx, Ans, ok, past, stop, or, unless, mark, pull, close, shut, read}
+use Rattle.atn.specs.Format.{Fmt, out, bad, lack, quit, inner}
+use Rattle.atn.specs.Reading.{Rec, Ctx, Ans, ok, stop, or, unless, mark, pull, close, shut, read}
 use Rattle.atn.proofs.Steps.{pull_go, pull_no}
 use Rattle.atn.proofs.Marks.{or_assoc, or_nil, or_swap}
 use Rattle.atn.proofs.Reach.{reach}
@@ -18,17 +17,15 @@ use Rattle.atn.proofs.Shift.{placeless, displaced, moved, moved_close, shift}
 use Rattle.per.proofs.Laws.{bit_of-part}
 use Rattle.cursor.specs.declared.place.Cursor.{Cursor}
 use Rattle.length_determinants.specs.declared.Measured.{Measured}
-use Rattle.cursor.specs.Place.{number, put, Inside, Pulled, stuck, short, got, Led, Reads}
+use Rattle.cursor.specs.Place.{put, Inside, Pulled, stuck, short, got, Led, Reads}
 use Rattle.cursor.specs.Place as place
 use Rattle.length_determinants.specs.Lengths.{Measures, Passes}
-use Rattle.length_determinants.proofs.LengthLaws.{measures_inside}
-use Rattle.records.specs.Told.{Told}
 use Rattle.records.specs.Space.{space}
 use Rattle.records.specs.Moves.{relocated, raised_places}
-use Rattle.records.proofs.Telling.{told_none, told-within}
+use Rattle.records.proofs.Telling.{told_none}
 use Rattle.records.proofs.Moving.{told_moved, relocated_displaced}
 use Rattle.runs.specs.declared.At.{At}
-use Rattle.runs.specs.Runs.{given, Ran, stayed, went, passed, gave_up, failed, Runs}
+use Rattle.runs.specs.Runs.{Ran, stayed, went, passed, gave_up, failed, Runs}
 use Rattle.runs.specs.Windows.{closed_why, closed_marks, closed, Tells}
 use Rattle.runs.proofs.WindowLaws.{closed_out}
 

@@ -1,12 +1,12 @@
 -- A size, and what is read and told behind it.
 use mathlib.Core.Path.{◌≡◌, refl, sym, ap, ◌∙◌}
-use mathlib.Core.List.{List, [], ◌∷◌, ◌++◌}
+use mathlib.Core.List.{List, [], ◌∷◌}
 use Prim.Native.Nat.{ℕ, ◌+◌, ◌-◌, ◌≤◌, ◌<◌}
 use native.Mathlib.Omega.{arith}
 use Rattle.x691.specs.Bits.{bit_of, uint}
 use Rattle.x691.specs.Encoding.{width}
-use Rattle.atn.specs.Format.{Why, out}
-use Rattle.atn.specs.Reading.{Rec, rec, Ans, ok, past, stop, glue, then, or, over, pull, sized}
+use Rattle.atn.specs.Format.{out}
+use Rattle.atn.specs.Reading.{Rec, rec, Ans, ok, past, stop, glue, then, or, over, sized}
 use Rattle.atn.proofs.Firm.{is_past}
 use Rattle.atn.proofs.Marks.{or_nil}
 use Rattle.atn.proofs.Reach.{split}

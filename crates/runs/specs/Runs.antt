@@ -1,6 +1,6 @@
 -- What a function that reads and tells has done.
 use Rattle.std.specs.Prelude.{◌≡◌, Bool, true, false, List, [], ℕ, ◌≤◌}
-use Rattle.atn.specs.Format.{Why, out, bad, lack, quit}
+use Rattle.atn.specs.Format.{Why, quit}
 use Rattle.atn.specs.Reading.{Rec, Ans, ok, past, stop, or, mark}
 use Rattle.cursor.specs.declared.place.Cursor.{Cursor}
 use Rattle.cursor.specs.Place.{number, put, Inside}

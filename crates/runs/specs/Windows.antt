@@ -1,5 +1,5 @@
 -- What is left of a reading inside an inner string, for the window around it.
-use Rattle.std.specs.Prelude.{List, cond, ℕ, zero, suc, ◌%◌, eqb}
+use Rattle.std.specs.Prelude.{List, cond, ℕ, ◌%◌, eqb}
 use Rattle.atn.specs.Reading.{Ans, Rec, or, unless}
 use Rattle.cursor.specs.declared.place.Cursor.{Cursor}
 use Rattle.cursor.specs.Place.{put, Reads}

@@ -1,7 +1,6 @@
 -- Saving a book: the complete answer, and what the lent bytes hold afterwards.
 use Rattle.std.specs.Prelude.{cond, List, ◌++◌, ℕ, leb, length, drop}
 use Rattle.std.proofs.Math.Option.{none, some}
-use Rattle.book_entries.specs.declared.Entry.{Entry}
 use Rattle.counted_books.specs.Counted.{held}
 use Rattle.book_lines.specs.Lines.{saved}
 use Rattle.saved_books.specs.declared.Saved.{Saved}

@@ -1,5 +1,5 @@
 -- The words of a node.
-use Rattle.std.proofs.Common.{◌≡◌, ℕ, ◌+◌, ◌*◌, ◌/◌, ◌<◌, ◌≤◌, ltb, List, length, get_or, refl, add-zero, arith, le-ltb, lt-ltb}
+use Rattle.std.proofs.Common.{ℕ, ◌+◌, ◌*◌, ◌/◌, ◌<◌, ◌≤◌, List, length, get_or, add-zero, le-ltb, lt-ltb}
 use Rattle.schema_tables.specs.Nodes.{nodes, node_word}
 use Rattle.schema_nodes.specs.Row.{IsNode}
 

@@ -1,9 +1,9 @@
 -- The tests of a table, by the questions that the code asks.
-use Rattle.std.proofs.Common.{◌≡◌, ℕ, zero, suc, ◌+◌, ◌-◌, ◌*◌, ◌/◌, ◌%◌, ◌^◌, ◌<◌, ◌≤◌, Bool, true, false, cond, ◌&&◌, ◌||◌, eqb, ltb, leb, ◌⊎◌, List, [], ◌∷◌, length, get_or, sym, refl, ap, ◌∙◌, inl, inr, add-zero, add-suc, suc-add, arith, ltb-false, ltb-true, le-ltb, lt-ltb, eq-eqb, ne_eqb, eqb-true, le-leb, leb-false, leb-true}
+use Rattle.std.proofs.Common.{◌≡◌, ℕ, zero, suc, ◌+◌, ◌-◌, ◌/◌, ◌%◌, ◌^◌, ◌<◌, ◌≤◌, Bool, true, false, ◌&&◌, ◌||◌, eqb, ltb, leb, ◌⊎◌, List, length, sym, refl, ◌∙◌, inl, inr, add-zero, arith, ltb-true, le-ltb, lt-ltb, eq-eqb, ne_eqb, eqb-true, le-leb, leb-false, leb-true}
 use borrow.Author.Tests.{lt-leb}
 use Rattle.atn.proofs.Inverse.{both}
 use Rattle.schema_tables.specs.Nodes.{nodes, node_word}
-use Rattle.schema_tables.specs.Tests.{below, each, raised, range_fits, kind_fits, node-fits, kinds_fit, first_of, count_of, first_at, count_at, link_fits, links_fit, within, depth-fits}
+use Rattle.schema_tables.specs.Tests.{below, each, raised, range_fits, kind_fits, node_fits, kinds_fit, first_of, count_of, first_at, count_at, link_fits, links_fit, within, depth_fits}
 use Rattle.schema_nodes.specs.declared.node.Node.{Node}
 use Rattle.schema_nodes.specs.Row.{IsNode}
 use Rattle.schema_nodes.specs.Refusal.{refusal_of}
@@ -86,12 +86,12 @@ module _ (N : List ℕ) where
   unfolding kinds_fit
   kinds_odd h = rw (ne_eqb (length N % 4) 0 h)
 
-  pub kinds-all : length N % 4 ≡ 0 → {n : ℕ} {t : Bool} → n ≡ length N / 4 → below (λ k. node-fits N k) n ≡ t → t ≡ kinds_fit N
+  pub kinds-all : length N % 4 ≡ 0 → {n : ℕ} {t : Bool} → n ≡ length N / 4 → below (λ k. node_fits N k) n ≡ t → t ≡ kinds_fit N
   unfolding kinds_fit nodes
   kinds-all h e g = rw (eq-eqb (length N % 4) 0 h, ← e, g)
 
-  pub node_kind : (k : ℕ) {n : Node} {t : Bool} → IsNode N k n → t ≡ kind_fits n.kind n.b n.c → node-fits N k ≡ t
-  unfolding node-fits
+  pub node_kind : (k : ℕ) {n : Node} {t : Bool} → IsNode N k n → t ≡ kind_fits n.kind n.b n.c → node_fits N k ≡ t
+  unfolding node_fits
   node_kind k q h = sym (h ∙ rw q)
 
 ---------------------------------------------------------------- 15
@@ -253,11 +253,11 @@ module _ (N : List ℕ) where
   no_links e z f y = rw (← e, z, ← f, y)
 
   pub too_deep : {t u v : Bool} → t ≡ kinds_fit N → t ≡ true → u ≡ links_fit N → u ≡ true → v ≡ within 16 N 0 → v ≡ false → 16 ≡ refusal_of N
-  unfolding refusal_of depth-fits
+  unfolding refusal_of depth_fits
   too_deep e z f y g x = rw (← e, z, ← f, y, ← g, x)
 
   pub all-fits : {t u v : Bool} → t ≡ kinds_fit N → t ≡ true → u ≡ links_fit N → u ≡ true → v ≡ within 16 N 0 → v ≡ true → 0 ≡ refusal_of N
-  unfolding refusal_of depth-fits
+  unfolding refusal_of depth_fits
   all-fits e z f y g x = rw (← e, z, ← f, y, ← g, x)
 
 -- the numbers of the nodes that are named fit a word

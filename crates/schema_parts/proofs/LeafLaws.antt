@@ -1,22 +1,21 @@
 -- Nodes that name none, by their kinds.
-use mathlib.Core.Path.{◌≡◌, refl, sym, ap, ◌∙◌}
-use mathlib.Core.Bool.{Bool, true, false}
+use mathlib.Core.Path.{◌≡◌, refl, ◌∙◌}
+use mathlib.Core.Bool.{true}
 use mathlib.Core.List.{List, [], ◌∷◌}
 use Prim.Native.Nat.{ℕ, ◌≤◌, ◌<◌}
 use native.Mathlib.Omega.{arith}
-use lib.ListN.{length}
-use lib.Dec.{leb, eqb}
+use lib.Dec.{leb}
 use borrow.Author.Tests.{eq-eqb, leb-true}
 use Rattle.x691.specs.Bits.{bit_of}
 use Rattle.atn.specs.Format.{Fmt, num, name, text, first, span, bad}
-use Rattle.atn.specs.Reading.{Ans, Rec, rec, ok, stop, or, mark, read}
+use Rattle.atn.specs.Reading.{rec, ok, stop, or, mark, read}
 use Rattle.cursor.specs.declared.place.Cursor.{Cursor}
-use Rattle.cursor.specs.Place.{number, put, stopped, marked}
+use Rattle.cursor.specs.Place.{put, stopped, marked}
 use Rattle.schema_tables.specs.Nodes.{format_of}
 use Rattle.schema_tables.specs.Tests.{kind_fits}
 use Rattle.capped_records.specs.Place.{Put}
 use Rattle.schema_leaves.specs.declared.Step.{Step}
-use Rattle.schema_leaves.specs.Came.{Open, Came}
+use Rattle.schema_leaves.specs.Came.{Came}
 use Rattle.schema_leaves.proofs.CameLaws.{at, came_stopped, came_told}
 use Rattle.schema_leaves.proofs.NumberLaws.{goes_marked}
 

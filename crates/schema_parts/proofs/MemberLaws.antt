@@ -1,16 +1,15 @@
 -- The members of a sequence, one after another.
 use mathlib.Core.Path.{◌≡◌, refl, sym, ap, ◌∙◌}
-use mathlib.Core.Bool.{Bool, true, false, cond}
-use mathlib.Core.List.{List, [], ◌∷◌}
-use Prim.Native.Nat.{ℕ, zero, suc, ◌+◌, ◌-◌, ◌*◌, ◌≤◌, ◌<◌}
-use native.Mathlib.Nat.{add-zero, zero-add}
+use mathlib.Core.Bool.{Bool, true, false}
+use mathlib.Core.List.{List, []}
+use Prim.Native.Nat.{ℕ, zero, suc, ◌+◌, ◌-◌, ◌≤◌, ◌<◌}
+use native.Mathlib.Nat.{add-zero}
 use native.Mathlib.Omega.{arith}
-use lib.ListN.{length}
 use lib.Dec.{eqb}
 use borrow.Author.Tests.{eqb-true, eq-eqb, ne_eqb}
 use Rattle.x691.specs.Bits.{bit_of, uint}
 use Rattle.x691.proofs.BitLaws.{uint-one}
-use Rattle.atn.specs.Format.{Fmt, Flds, end, ◌⨾◌, ◌⨾?◌, unread}
+use Rattle.atn.specs.Format.{Fmt, Flds, end}
 use Rattle.atn.specs.Reading.{Ans, ok, or, mark, then, fork, flags, unread_mark, unread_marks, read, read_fields}
 use Rattle.atn.proofs.Marks.{or_nil, or_assoc, or_commutes}
 use Rattle.atn.proofs.Steps.{then-nil}

@@ -1,5 +1,5 @@
 -- A member of a sequence by its kind.
-use Rattle.std.specs.Prelude.{cond, List, [], ◌∷◌, ℕ, ◌+◌, eqb}
+use Rattle.std.specs.Prelude.{cond, [], ◌∷◌, ℕ, eqb}
 use Rattle.atn.specs.Format.{Fmt}
 use Rattle.atn.specs.Reading.{Ans, rec, ok, mark, fork, read, unread_mark}
 

@@ -1,25 +1,22 @@
 -- From where the reading of a frame came to what the entry says.
 use mathlib.Core.Path.{◌≡◌, refl, sym, ap, ◌∙◌}
 use mathlib.Core.Bool.{Bool, true, false, cond}
-use mathlib.Core.List.{List, [], ◌∷◌, ◌++◌}
+use mathlib.Core.List.{List, [], ◌++◌}
 use Prim.Native.Nat.{ℕ, ◌+◌, ◌*◌, ◌/◌, ◌%◌, ◌^◌, ◌≤◌, ◌<◌, min}
 use native.Mathlib.Omega.{arith}
 use lib.ListN.{length, drop}
-use borrow.Author.Tests.{le-leb, lt-leb}
 use Rattle.x691.specs.Bits.{bit_of}
-use Rattle.atn.specs.Format.{Why, out, bad, lack, quit}
-use Rattle.atn.specs.Reading.{Ans, Rec, ok, stop, or, read}
-use Rattle.atn.specs.Entries.{Reply, accept, ran_out, badly, unsupplied, reply, stopped, read_frame, Outcome, accepted, refused, flat, need, settle, decide, enter, frame-fits}
+use Rattle.atn.specs.Format.{out, bad, lack, quit}
+use Rattle.atn.specs.Reading.{Ans, ok, stop, or, read}
+use Rattle.atn.specs.Entries.{Reply, reply, stopped, read_frame, Outcome, accepted, refused, flat, need, settle, decide, enter}
 use Rattle.atn.proofs.Marks.{or_nil, or_commutes}
 use Rattle.atn.proofs.Outcomes.{settle-fits, settle_full, decide-kept}
 use Rattle.answers.specs.declared.Answer.{Answer}
 use Rattle.answers.specs.Says.{Says}
 use Rattle.answers.proofs.Entering.{enter-long, enter_tests}
-use Rattle.cursor.specs.declared.place.Cursor.{Cursor}
-use Rattle.cursor.specs.Place.{number, put}
-use Rattle.schema_tables.specs.Entry.{top, capped_answer, capped, table_tests, parse-by-table}
+use Rattle.schema_tables.specs.Entry.{top, capped_answer, capped, table_tests, parse_by_table}
 use Rattle.schema_tables.specs.Nodes.{format_at, meaning}
-use Rattle.schema_tables.specs.Tests.{kinds_fit, links_fit, depth-fits}
+use Rattle.schema_tables.specs.Tests.{kinds_fit, links_fit, depth_fits}
 use Rattle.schema_tables.proofs.Capped.{cap_same, cap_need, cap_words}
 use Rattle.schema_nodes.specs.Refusal.{refusal_of}
 use Rattle.capped_records.specs.Place.{counted, place}
@@ -81,22 +78,22 @@ module _ (N s : List ℕ) where
 ---------------------------------------------------------------- the tests before it
 
 module _ (s N w : List ℕ) where
-  pub frame-long : 65536 < length s → ◌≡◌ {A = Outcome} (refused 1 0 0 0, w) (parse-by-table s N w)
-  unfolding parse-by-table
+  pub frame-long : 65536 < length s → ◌≡◌ {A = Outcome} (refused 1 0 0 0, w) (parse_by_table s N w)
+  unfolding parse_by_table
   frame-long h = sym (cap_need 1 0 0 0 w) ∙ ap capped (enter-long (table_tests N) _ s w h)
 
   -- the first refusal of the table
-  pub table-refused : {k : ℕ} → length s ≤ 65536 → k ≡ refusal_of N → (k ≡ 0 → ⊥) → ◌≡◌ {A = Outcome} (refused k 0 0 0, w) (parse-by-table s N w)
-  unfolding parse-by-table decide refusal_of
-  table-refused {k} h e n = go (kinds_fit N) (links_fit N) (depth-fits N) refl refl refl
+  pub table-refused : {k : ℕ} → length s ≤ 65536 → k ≡ refusal_of N → (k ≡ 0 → ⊥) → ◌≡◌ {A = Outcome} (refused k 0 0 0, w) (parse_by_table s N w)
+  unfolding parse_by_table decide refusal_of
+  table-refused {k} h e n = go (kinds_fit N) (links_fit N) (depth_fits N) refl refl refl
     where
-      back : (a b d : Bool) → kinds_fit N ≡ a → links_fit N ≡ b → depth-fits N ≡ d → k ≡ cond a (cond b (cond d 0 16) 15) 17
+      back : (a b d : Bool) → kinds_fit N ≡ a → links_fit N ≡ b → depth_fits N ≡ d → k ≡ cond a (cond b (cond d 0 16) 15) 17
       back a b d p q r = e ∙ rw (p, q, r)
 
       say : (j : ℕ) → k ≡ j → ◌≡◌ {A = Outcome} (refused j 0 0 0, w) (decide (table_tests N) (read_frame (meaning N) s) w) → ◌≡◌ {A = Outcome} (refused k 0 0 0, w) (capped (enter (table_tests N) (λ f. read_frame (meaning N) f) s w))
       say j f g = rw f (sym (cap_need j 0 0 0 w) ∙ ap capped (enter_tests (table_tests N) _ s w h g))
 
-      go : (a b d : Bool) → kinds_fit N ≡ a → links_fit N ≡ b → depth-fits N ≡ d → ◌≡◌ {A = Outcome} (refused k 0 0 0, w) (capped (enter (table_tests N) (λ f. read_frame (meaning N) f) s w))
+      go : (a b d : Bool) → kinds_fit N ≡ a → links_fit N ≡ b → depth_fits N ≡ d → ◌≡◌ {A = Outcome} (refused k 0 0 0, w) (capped (enter (table_tests N) (λ f. read_frame (meaning N) f) s w))
       go false b d p q r = say 17 (back false b d p q r) (rw p refl)
       go true false d p q r = say 15 (back true false d p q r) (rw (p, q) refl)
       go true true false p q r = say 16 (back true true false p q r) (rw (p, q, r) refl)
@@ -104,30 +101,30 @@ module _ (s N w : List ℕ) where
 
   pub table_ready : {k : ℕ} → k ≡ refusal_of N → k ≡ 0 → Ready N
   unfolding refusal_of
-  table_ready {k} e z = go (kinds_fit N) (links_fit N) (depth-fits N) refl refl refl
+  table_ready {k} e z = go (kinds_fit N) (links_fit N) (depth_fits N) refl refl refl
     where
       none : (j : ℕ) → k ≡ j → 1 ≤ j → Ready N
       none j f l = absurd (omega arith)
 
-      back : (a b d : Bool) → kinds_fit N ≡ a → links_fit N ≡ b → depth-fits N ≡ d → k ≡ cond a (cond b (cond d 0 16) 15) 17
+      back : (a b d : Bool) → kinds_fit N ≡ a → links_fit N ≡ b → depth_fits N ≡ d → k ≡ cond a (cond b (cond d 0 16) 15) 17
       back a b d p q r = e ∙ rw (p, q, r)
 
-      go : (a b d : Bool) → kinds_fit N ≡ a → links_fit N ≡ b → depth-fits N ≡ d → Ready N
+      go : (a b d : Bool) → kinds_fit N ≡ a → links_fit N ≡ b → depth_fits N ≡ d → Ready N
       go false b d p q r = none 17 (back false b d p q r) (omega arith)
       go true false d p q r = none 15 (back true false d p q r) (omega arith)
       go true true d p q r = record { kinds = p; links = q }
 
-  pub table_reads : {k : ℕ} {o : Outcome} → length s ≤ 65536 → k ≡ refusal_of N → k ≡ 0 → o ≡ capped (settle (read_frame (meaning N) s) w) → o ≡ parse-by-table s N w
-  unfolding parse-by-table decide refusal_of
-  table_reads {k} {o} h e z x = go (kinds_fit N) (links_fit N) (depth-fits N) refl refl refl
+  pub table_reads : {k : ℕ} {o : Outcome} → length s ≤ 65536 → k ≡ refusal_of N → k ≡ 0 → o ≡ capped (settle (read_frame (meaning N) s) w) → o ≡ parse_by_table s N w
+  unfolding parse_by_table decide refusal_of
+  table_reads {k} {o} h e z x = go (kinds_fit N) (links_fit N) (depth_fits N) refl refl refl
     where
-      back : (a b d : Bool) → kinds_fit N ≡ a → links_fit N ≡ b → depth-fits N ≡ d → k ≡ cond a (cond b (cond d 0 16) 15) 17
+      back : (a b d : Bool) → kinds_fit N ≡ a → links_fit N ≡ b → depth_fits N ≡ d → k ≡ cond a (cond b (cond d 0 16) 15) 17
       back a b d p q r = e ∙ rw (p, q, r)
 
       none : (j : ℕ) → k ≡ j → 1 ≤ j → o ≡ capped (enter (table_tests N) (λ f. read_frame (meaning N) f) s w)
       none j f l = absurd (omega arith)
 
-      go : (a b d : Bool) → kinds_fit N ≡ a → links_fit N ≡ b → depth-fits N ≡ d → o ≡ capped (enter (table_tests N) (λ f. read_frame (meaning N) f) s w)
+      go : (a b d : Bool) → kinds_fit N ≡ a → links_fit N ≡ b → depth_fits N ≡ d → o ≡ capped (enter (table_tests N) (λ f. read_frame (meaning N) f) s w)
       go false b d p q r = none 17 (back false b d p q r) (omega arith)
       go true false d p q r = none 15 (back true false d p q r) (omega arith)
       go true true false p q r = none 16 (back true true false p q r) (omega arith)

@@ -4,7 +4,7 @@
 ghost use Rattle.std.specs.Prelude.{◌≡◌, ◌*◌, ◌≤◌, min, length};
 ghost use Rattle.atn.specs.Entries.{read_frame, settle};
 ghost use Rattle.answers.specs.Says.{Says};
-ghost use Rattle.schema_tables.specs.Entry.{top, capped, parse-by-table};
+ghost use Rattle.schema_tables.specs.Entry.{top, capped, parse_by_table};
 ghost use Rattle.schema_tables.specs.Nodes.{meaning};
 ghost use Rattle.schema_walk.specs.Ready.{Ready};
 
@@ -21,7 +21,7 @@ const WORDS: usize = 5;
 
 // Node 0 is the root; its records have element number 0.
 pub fn parse_by_table(frame: &[u8], nodes: &[u64], words: &mut [u64]) -> Answer
-    ensures { Says result words.new (parse-by-table frame.now nodes.now words.old) }
+    ensures { Says result words.new (parse_by_table frame.now nodes.now words.old) }
 {
     if LONGEST_FRAME < frame.len() {
         return refused(1, 0, 0, 0);

@@ -13,13 +13,13 @@ use Rattle.atn.specs.Format.{Fmt, num, many, none_left, ◌∥◌}
 use Rattle.atn.specs.Alternatives.{alternatives_from}
 use Rattle.atn.specs.Reading.{Ctx, Ans, mark, read, read_choice, flags, unread_marks, sized, pull, fetch, times, over, unless, then}
 use Rattle.atn.specs.Messages.{speed_type, code, frequency, numeric_string, arguments, no_reader}
-use Rattle.atn.specs.Entries.{reply, read_frame, enter, decide, test, frame-fits}
+use Rattle.atn.specs.Entries.{reply, read_frame, enter, decide, test, frame_fits}
 use Rattle.atn.specs.Tags as tag
 use Rattle.atn.specs.Demands.{passes}
 use Rattle.atn.proofs.Inverse.{both}
 use Rattle.schema_tables.specs.Nodes.{nodes, node_word, member_of, members_from, format_of, format_at, meaning}
-use Rattle.schema_tables.specs.Tests.{below, each, raised, range_fits, kind_fits, node-fits, kinds_fit, first_of, count_of, first_at, count_at, link_fits, links_fit, within, depth-fits}
-use Rattle.schema_tables.specs.Entry.{table_tests, Kept, capped, parse-by-table}
+use Rattle.schema_tables.specs.Tests.{below, each, raised, range_fits, kind_fits, node_fits, kinds_fit, first_of, count_of, first_at, count_at, link_fits, links_fit, within, depth_fits}
+use Rattle.schema_tables.specs.Entry.{table_tests, Kept, capped, parse_by_table}
 use Rattle.schema_tables.specs.Arguments.{speed_types_nodes, code_nodes, frequency_nodes, argument_tables}
 use Rattle.schema_tables.specs.Agrees.{Channel, Reads}
 use Rattle.schema_tables.proofs.Capped.{kept_reads}
@@ -46,7 +46,7 @@ no_channel (suc (suc (suc (suc i)))) x b e at f g h u v n = refl
 frequencies : (x : Ctx) (b : ℕ → ℕ) (e at : ℕ) → (Channel b at → ⊥) → Reads frequency_nodes frequency x b e at
 unfolding meaning format_at format_of member_of members_from alternatives_from node_word nodes mark read pull fetch width width_in highest count then
 frequencies x b e at n =
-    rw (no_channel (uint b at 2) x b e (at + 2) (num tag.frequency-number 2850 28000) (num tag.frequency-number 23600 27398) (num tag.frequency-number 9000 15999) no_reader (numeric_string tag.satellite_channel tag.satellite_channel_x691 12 12) n)
+    rw (no_channel (uint b at 2) x b e (at + 2) (num tag.frequency_number 2850 28000) (num tag.frequency_number 23600 27398) (num tag.frequency_number 9000 15999) no_reader (numeric_string tag.satellite_channel tag.satellite_channel_x691 12 12) n)
 
 ---------------------------------------------------------------- all of them
 
@@ -92,7 +92,7 @@ all_fit [] = true
 all_fit (N ∷ Ns) = passes (table_tests N) && all_fit Ns
 
 tables_fit : all_fit argument_tables ≡ true
-unfolding all_fit passes below each raised range_fits kind_fits node-fits kinds_fit first_of count_of first_at count_at link_fits links_fit within depth-fits node_word nodes
+unfolding all_fit passes below each raised range_fits kind_fits node_fits kinds_fit first_of count_of first_at count_at link_fits links_fit within depth_fits node_word nodes
 tables_fit = refl
 
 fit_at : (k : ℕ) (Ns : List (List ℕ)) → all_fit Ns ≡ true → k < length Ns → Kept (get_or Ns k [])
@@ -105,6 +105,6 @@ pub tables-kept : (k : ℕ) → k < 16 → Kept (get_or argument_tables k [])
 tables-kept k l = fit_at k argument_tables tables_fit l
 
 -- answers and words: what an entry would give that reads by the argument alone
-pub agree_entry : (k : ℕ) → k < 16 → (s w : List ℕ) → (k ≡ 6 → Channel (bit_of s) 0 → ⊥) → parse-by-table s (get_or argument_tables k []) w ≡ capped (enter [] (λ f. read_frame (get_or arguments k no_reader) f) s w)
+pub agree_entry : (k : ℕ) → k < 16 → (s w : List ℕ) → (k ≡ 6 → Channel (bit_of s) 0 → ⊥) → parse_by_table s (get_or argument_tables k []) w ≡ capped (enter [] (λ f. read_frame (get_or arguments k no_reader) f) s w)
 unfolding enter
-agree_entry k l s w n = kept_reads (get_or argument_tables k []) (tables-kept k l) s w ∙ ap (λ r. capped (decide (test (frame-fits s) 1 ∷ []) r w)) (agree_frame k l s n)
+agree_entry k l s w n = kept_reads (get_or argument_tables k []) (tables-kept k l) s w ∙ ap (λ r. capped (decide (test (frame_fits s) 1 ∷ []) r w)) (agree_frame k l s n)

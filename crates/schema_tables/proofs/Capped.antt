@@ -1,19 +1,19 @@
 -- From the entry back to the reading: the tests of the table, and the need that is capped.
-use mathlib.Core.Path.{◌≡◌, refl, sym, ap, ◌∙◌}
+use mathlib.Core.Path.{◌≡◌, refl, sym, ap}
 use mathlib.Core.Bool.{Bool, true, false, ◌&&◌}
 use mathlib.Core.List.{List, [], ◌∷◌}
 use Prim.Native.Nat.{ℕ, min}
 use native.Mathlib.Omega.{arith}
-use Rattle.atn.specs.Entries.{Reply, Answer, accepted, refused, Outcome, Test, test, decide, enter, read_frame, frame-fits}
+use Rattle.atn.specs.Entries.{Reply, accepted, refused, Outcome, test, decide, enter, read_frame, frame_fits}
 use Rattle.atn.specs.Demands.{passes}
 use Rattle.schema_tables.specs.Nodes.{meaning}
-use Rattle.schema_tables.specs.Tests.{kinds_fit, links_fit, depth-fits}
-use Rattle.schema_tables.specs.Entry.{Kept, top, capped_answer, capped, parse-by-table}
+use Rattle.schema_tables.specs.Tests.{kinds_fit, links_fit, depth_fits}
+use Rattle.schema_tables.specs.Entry.{Kept, top, capped_answer, capped, parse_by_table}
 
 -- a table that is not refused: its frames are read by its meaning, and nothing else is asked
-pub kept_reads : (N : List ℕ) → Kept N → (s w : List ℕ) → parse-by-table s N w ≡ capped (enter [] (λ f. read_frame (meaning N) f) s w)
-unfolding parse-by-table enter decide passes
-kept_reads N h s w = ap capped (go (frame-fits s) (kinds_fit N) (links_fit N) (depth-fits N) (read_frame (meaning N) s) h)
+pub kept_reads : (N : List ℕ) → Kept N → (s w : List ℕ) → parse_by_table s N w ≡ capped (enter [] (λ f. read_frame (meaning N) f) s w)
+unfolding parse_by_table enter decide passes
+kept_reads N h s w = ap capped (go (frame_fits s) (kinds_fit N) (links_fit N) (depth_fits N) (read_frame (meaning N) s) h)
   where
     go : (a b c d : Bool) (r : Reply) → b && (c && (d && true)) ≡ true → decide (test a 1 ∷ test b 17 ∷ test c 15 ∷ test d 16 ∷ []) r w ≡ decide (test a 1 ∷ []) r w
     go false b c d r e = refl
@@ -23,17 +23,17 @@ kept_reads N h s w = ap capped (go (frame-fits s) (kinds_fit N) (links_fit N) (d
     go true true true false r e = let z : ◌≡◌ {A = ℕ} 0 1 = cc in absurd (omega arith)
 
 -- a table that is refused, for every frame within the limit: 17 first, then 15, then 16
-module _ (N s w : List ℕ) (f : frame-fits s ≡ true) where
-  pub kinds-refused : kinds_fit N ≡ false → parse-by-table s N w ≡ (refused 17 0 0 0, w)
-  unfolding parse-by-table enter decide capped capped_answer
+module _ (N s w : List ℕ) (f : frame_fits s ≡ true) where
+  pub kinds-refused : kinds_fit N ≡ false → parse_by_table s N w ≡ (refused 17 0 0 0, w)
+  unfolding parse_by_table enter decide capped capped_answer
   kinds-refused h = rw (f, h)
 
-  pub links_refused : kinds_fit N ≡ true → links_fit N ≡ false → parse-by-table s N w ≡ (refused 15 0 0 0, w)
-  unfolding parse-by-table enter decide capped capped_answer
+  pub links_refused : kinds_fit N ≡ true → links_fit N ≡ false → parse_by_table s N w ≡ (refused 15 0 0 0, w)
+  unfolding parse_by_table enter decide capped capped_answer
   links_refused k h = rw (f, k, h)
 
-  pub depth-refused : kinds_fit N ≡ true → links_fit N ≡ true → depth-fits N ≡ false → parse-by-table s N w ≡ (refused 16 0 0 0, w)
-  unfolding parse-by-table enter decide capped capped_answer
+  pub depth-refused : kinds_fit N ≡ true → links_fit N ≡ true → depth_fits N ≡ false → parse_by_table s N w ≡ (refused 16 0 0 0, w)
+  unfolding parse_by_table enter decide capped capped_answer
   depth-refused k l h = rw (f, k, l, h)
 
 ---------------------------------------------------------------- the cap

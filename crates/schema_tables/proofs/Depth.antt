@@ -1,19 +1,18 @@
 -- The depth of 16 decides nothing: of a table that is not refused, every greater depth gives the same meaning.
-use mathlib.Core.Path.{◌≡◌, refl, sym, ap, ◌∙◌}
+use mathlib.Core.Path.{◌≡◌, refl, ap, ◌∙◌}
 use mathlib.Core.Bool.{Bool, true, false, cond, ◌&&◌}
-use mathlib.Core.List.{List, [], ◌∷◌}
+use mathlib.Core.List.{List}
 use Prim.Native.Nat.{ℕ, zero, suc, ◌+◌}
 use native.Mathlib.Nat.{suc-add}
 use native.Mathlib.Omega.{arith}
 use lib.Dec.{eqb}
 use borrow.Author.Tests.{eqb-true}
-use Rattle.atn.specs.Format.{Fmt, Flds, Alts, seq, choice, ext, noted, end, ◌⨾◌, ◌⨾?◌, unread, ◌∥◌}
+use Rattle.atn.specs.Format.{Fmt, Flds, seq, choice, ◌⨾◌, ◌⨾?◌, unread}
 use Rattle.atn.specs.Alternatives.{alternatives_from}
-use Rattle.atn.specs.Messages.{no_reader, extended}
 use Rattle.atn.specs.Demands.{passes}
 use Rattle.atn.proofs.Inverse.{both}
 use Rattle.schema_tables.specs.Nodes.{node_word, member_of, members_from, format_of, format_at, meaning}
-use Rattle.schema_tables.specs.Tests.{each, kinds_fit, links_fit, first_of, count_of, first_at, count_at, within, depth-fits}
+use Rattle.schema_tables.specs.Tests.{each, kinds_fit, links_fit, first_of, count_of, first_at, count_at, within, depth_fits}
 use Rattle.schema_tables.specs.Entry.{Kept}
 
 never : {A : Type 0} → false ≡ true → A
@@ -90,7 +89,7 @@ module _ (N : List ℕ) where
 
 -- a table that is not refused
 pub depth_decides_nothing : (N : List ℕ) → Kept N → (d : ℕ) → format_at (16 + d) N 0 ≡ meaning N
-unfolding meaning passes depth-fits
+unfolding meaning passes depth_fits
 depth_decides_nothing N h d =
     let x = both (kinds_fit N) (links_fit N && (within 16 N 0 && true)) h in
     let y = both (links_fit N) (within 16 N 0 && true) x.1 in

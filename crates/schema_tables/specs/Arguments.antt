@@ -62,8 +62,8 @@ coordinates k =
     ++ sequence (k + 2) 2
     ++ optional (k + 4)
     ++ optional (k + 15)
-    ++ angle (k + 4) tag.latitude tag.latitude-thousandths tag.latitude-degrees tag.latitude-hundredths tag.latitude-minutes tag.latitude-seconds tag.latitude-side 90
-    ++ angle (k + 15) tag.longitude tag.longitude-thousandths tag.longitude-degrees tag.longitude-hundredths tag.longitude-minutes tag.longitude-seconds tag.longitude-side 180
+    ++ angle (k + 4) tag.latitude tag.latitude_thousandths tag.latitude_degrees tag.latitude_hundredths tag.latitude_minutes tag.latitude_seconds tag.latitude_side 90
+    ++ angle (k + 15) tag.longitude tag.longitude_thousandths tag.longitude_degrees tag.longitude_hundredths tag.longitude_minutes tag.longitude_seconds tag.longitude_side 180
 
 -- a position, from node k on: 36 nodes
 abbrev pub position_at : ℕ → List ℕ
@@ -87,34 +87,34 @@ extensible_name t hi = extensible 1 t ++ place t hi
 abbrev pub speed_nodes : List ℕ
 speed_nodes =
     choices tag.speed 1 7
-    ++ number tag.speed-number 0 400
-    ++ number tag.speed-number 0 800
-    ++ number tag.speed-number 0 2000
-    ++ number tag.speed-number 0 4000
-    ++ number tag.speed-number (minus 50) 2000
-    ++ number tag.speed-number (minus 100) 4000
-    ++ number tag.speed-number 500 4000
+    ++ number tag.speed_number 0 400
+    ++ number tag.speed_number 0 800
+    ++ number tag.speed_number 0 2000
+    ++ number tag.speed_number 0 4000
+    ++ number tag.speed_number (minus 50) 2000
+    ++ number tag.speed_number (minus 100) 4000
+    ++ number tag.speed_number 500 4000
 
 abbrev pub speed_types_nodes : List ℕ
-speed_types_nodes = sequence 1 3 ++ same 4 ++ same 4 ++ same 4 ++ extensible 5 tag.speed-type ++ place tag.speed-type 8
+speed_types_nodes = sequence 1 3 ++ same 4 ++ same 4 ++ same 4 ++ extensible 5 tag.speed_type ++ place tag.speed_type 8
 
 abbrev pub level_nodes : List ℕ
-level_nodes = choices tag.level 1 4 ++ number tag.level-number (minus 60) 7000 ++ number tag.level-number (minus 30) 25000 ++ number tag.level-number 30 700 ++ number tag.level-number 100 2500
+level_nodes = choices tag.level 1 4 ++ number tag.level_number (minus 60) 7000 ++ number tag.level_number (minus 30) 25000 ++ number tag.level_number 30 700 ++ number tag.level_number 100 2500
 
 abbrev pub degrees_nodes : List ℕ
-degrees_nodes = choices tag.degrees 1 2 ++ number tag.degrees-number 1 360 ++ number tag.degrees-number 1 360
+degrees_nodes = choices tag.degrees 1 2 ++ number tag.degrees_number 1 360 ++ number tag.degrees_number 1 360
 
 abbrev pub frequency_nodes : List ℕ
-frequency_nodes = choices tag.frequency 1 4 ++ number tag.frequency-number 2850 28000 ++ number tag.frequency-number 23600 27398 ++ number tag.frequency-number 9000 15999 ++ no_alternative
+frequency_nodes = choices tag.frequency 1 4 ++ number tag.frequency_number 2850 28000 ++ number tag.frequency_number 23600 27398 ++ number tag.frequency_number 9000 15999 ++ no_alternative
 
 abbrev pub code_nodes : List ℕ
-code_nodes = sequence 1 4 ++ number tag.code-digit 0 7 ++ number tag.code-digit 0 7 ++ number tag.code-digit 0 7 ++ number tag.code-digit 0 7
+code_nodes = sequence 1 4 ++ number tag.code_digit 0 7 ++ number tag.code_digit 0 7 ++ number tag.code_digit 0 7 ++ number tag.code_digit 0 7
 
 abbrev pub procedure_nodes : List ℕ
-procedure_nodes = sequence 1 3 ++ place tag.procedure 2 ++ letters tag.procedure-name 1 20 ++ optional 4 ++ letters tag.procedure-transition 1 5
+procedure_nodes = sequence 1 3 ++ place tag.procedure 2 ++ letters tag.procedure_name 1 20 ++ optional 4 ++ letters tag.procedure_transition 1 5
 
 abbrev pub runway_nodes : List ℕ
-runway_nodes = sequence 1 2 ++ number tag.runway 1 36 ++ number tag.runway-side 0 3
+runway_nodes = sequence 1 2 ++ number tag.runway 1 36 ++ number tag.runway_side 0 3
 
 abbrev pub departure_nodes : List ℕ
 departure_nodes = sequence 1 4 ++ letters tag.flight_identification 2 8 ++ same 5 ++ unread_part tag.flight_information ++ unread_part tag.further_instructions ++ position_at 5
@@ -123,7 +123,7 @@ abbrev pub argument_tables : List (List ℕ)
 argument_tables =
     position_at 0
     ∷ speed_nodes
-    ∷ extensible_name tag.speed-type 8
+    ∷ extensible_name tag.speed_type 8
     ∷ speed_types_nodes
     ∷ level_nodes
     ∷ degrees_nodes
@@ -131,7 +131,7 @@ argument_tables =
     ∷ code_nodes
     ∷ extensible_name tag.traffic_type 5
     ∷ extensible_name tag.clearance_type 11
-    ∷ extensible_name tag.error-information 4
+    ∷ extensible_name tag.error_information 4
     ∷ extensible_name tag.facility_function 8
     ∷ procedure_nodes
     ∷ runway_nodes

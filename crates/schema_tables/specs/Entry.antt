@@ -3,11 +3,11 @@ use Rattle.std.specs.Prelude.{◌≡◌, true, List, [], ◌∷◌, ℕ, min}
 use Rattle.atn.specs.Entries.{Answer, accepted, refused, Outcome, Test, test, enter, read_frame}
 use Rattle.atn.specs.Demands.{passes}
 use Rattle.schema_tables.specs.Nodes.{meaning}
-use Rattle.schema_tables.specs.Tests.{kinds_fit, links_fit, depth-fits}
+use Rattle.schema_tables.specs.Tests.{kinds_fit, links_fit, depth_fits}
 
 -- "before the frame is read, in the order 17, 15, 16"
 abbrev pub table_tests : List ℕ → List Test
-table_tests N = test (kinds_fit N) 17 ∷ test (links_fit N) 15 ∷ test (depth-fits N) 16 ∷ []
+table_tests N = test (kinds_fit N) 17 ∷ test (links_fit N) 15 ∷ test (depth_fits N) 16 ∷ []
 
 -- a table that is not refused
 abbrev pub Kept : List ℕ → Type 0
@@ -26,5 +26,5 @@ unfoldable pub capped : Outcome → Outcome
 capped o = (capped_answer o.0, o.1)
 
 -- frame, table, words
-unfoldable pub parse-by-table : List ℕ → List ℕ → List ℕ → Outcome
-parse-by-table s N w = capped (enter (table_tests N) (λ f. read_frame (meaning N) f) s w)
+unfoldable pub parse_by_table : List ℕ → List ℕ → List ℕ → Outcome
+parse_by_table s N w = capped (enter (table_tests N) (λ f. read_frame (meaning N) f) s w)

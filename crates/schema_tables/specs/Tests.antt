@@ -1,5 +1,5 @@
 -- What a table is refused for, before the frame is read: "15, a node number out of the table or not higher; 16, a depth above 16; 17, an unknown node kind or an empty range".
-use Rattle.std.specs.Prelude.{Bool, true, false, cond, ◌&&◌, ◌||◌, List, [], ◌∷◌, ℕ, zero, suc, ◌+◌, ◌*◌, ◌%◌, length, get_or, leb, ltb, eqb}
+use Rattle.std.specs.Prelude.{Bool, true, false, cond, ◌&&◌, ◌||◌, List, [], ◌∷◌, ℕ, zero, suc, ◌+◌, ◌%◌, length, get_or, leb, ltb, eqb}
 use Rattle.schema_tables.specs.Nodes.{nodes, node_word}
 
 -- a test of every number below n, and of n numbers from k on
@@ -40,12 +40,12 @@ kind_fits kind b c =
     ∷ [])
     kind false
 
-unfoldable pub node-fits : List ℕ → ℕ → Bool
-node-fits N k = kind_fits (node_word N k 0) (node_word N k 2) (node_word N k 3)
+unfoldable pub node_fits : List ℕ → ℕ → Bool
+node_fits N k = kind_fits (node_word N k 0) (node_word N k 2) (node_word N k 3)
 
 -- every node; words that are no whole node have no kind
 unfoldable pub kinds_fit : List ℕ → Bool
-kinds_fit N = eqb (length N % 4) 0 && below (λ k. node-fits N k) (nodes N)
+kinds_fit N = eqb (length N % 4) 0 && below (λ k. node_fits N k) (nodes N)
 
 ---------------------------------------------------------------- 15
 
@@ -77,5 +77,5 @@ unfoldable pub within : ℕ → List ℕ → ℕ → Bool
 within zero N k = false
 within (suc g) N k = each (λ j. within g N j) (first_at N k) (count_at N k)
 
-unfoldable pub depth-fits : List ℕ → Bool
-depth-fits N = within 16 N 0
+unfoldable pub depth_fits : List ℕ → Bool
+depth_fits N = within 16 N 0

@@ -1,12 +1,12 @@
 -- A choice, an extension bit, a part with a record before it.
 use mathlib.Core.Path.{◌≡◌, refl, sym, ap, ◌∙◌}
 use mathlib.Core.List.{List, [], ◌∷◌}
-use Prim.Native.Nat.{ℕ, zero, suc, ◌+◌, ◌-◌, ◌*◌, ◌/◌, ◌≤◌, ◌<◌}
-use native.Mathlib.Nat.{add-zero, add-suc, suc-add}
+use Prim.Native.Nat.{ℕ, zero, suc, ◌+◌, ◌-◌, ◌/◌, ◌≤◌, ◌<◌}
+use native.Mathlib.Nat.{add-zero}
 use native.Mathlib.Omega.{arith}
 use lib.ListN.{length}
 use borrow.Author.Tests.{eq-eqb}
-use Rattle.x691.specs.Bits.{bit_of, uint}
+use Rattle.x691.specs.Bits.{bit_of}
 use Rattle.x691.specs.Encoding.{width, highest, count}
 use Rattle.atn.specs.Format.{Fmt, Alts, choice, ext, noted, bad, alternatives_of}
 use Rattle.atn.specs.Alternatives.{alternatives_from}
@@ -16,13 +16,13 @@ use Rattle.atn.proofs.Marks.{or_nil}
 use Rattle.atn.proofs.Alternatives.{count-from}
 use Rattle.cursor.specs.declared.place.Cursor.{Cursor}
 use Rattle.cursor.specs.declared.place.Got.{Got}
-use Rattle.cursor.specs.Place.{number, put, stopped, marked, Pulls}
+use Rattle.cursor.specs.Place.{put, stopped, marked, Pulls}
 use Rattle.schema_tables.specs.Entry.{top}
 use Rattle.capped_records.specs.Place.{Put}
-use Rattle.capped_records.proofs.PlaceLaws.{one-length, counted-top}
+use Rattle.capped_records.proofs.PlaceLaws.{counted-top}
 use Rattle.schema_leaves.specs.declared.Step.{Step}
-use Rattle.schema_leaves.specs.Came.{Open, Came, went, failed}
-use Rattle.schema_leaves.proofs.CameLaws.{at, came_as, came_same, came_told, came_stopped, came_then, came_short, came_pull, There, there, open-pull}
+use Rattle.schema_leaves.specs.Came.{Open, Came}
+use Rattle.schema_leaves.proofs.CameLaws.{at, came_same, came_told, came_stopped, came_then, came_short, came_pull, there, open-pull}
 use Rattle.schema_leaves.proofs.NumberLaws.{goes_marked, goes_unmarked}
 
 ---------------------------------------------------------------- the alternatives

@@ -1,27 +1,26 @@
 -- Which format a node is, and what a table that is in order keeps.
-use mathlib.Core.Path.{◌≡◌, refl, sym, ap, ◌∙◌}
-use mathlib.Core.Bool.{Bool, true, false, ◌&&◌}
+use mathlib.Core.Path.{◌≡◌, refl, ap, ◌∙◌}
+use mathlib.Core.Bool.{Bool, true, false}
 use mathlib.Core.Logic.{◌⊎◌, inl, inr}
-use mathlib.Core.List.{List, [], ◌∷◌}
-use Prim.Native.Nat.{ℕ, zero, suc, ◌+◌, ◌-◌, ◌*◌, ◌/◌, ◌%◌, ◌^◌, ◌≤◌, ◌<◌}
+use mathlib.Core.List.{List}
+use Prim.Native.Nat.{ℕ, suc, ◌+◌, ◌-◌, ◌/◌, ◌%◌, ◌^◌, ◌≤◌, ◌<◌}
 use native.Mathlib.Omega.{arith}
 use lib.ListN.{length}
 use lib.Dec.{leb, ltb, eqb}
-use borrow.Author.Tests.{eqb-true, eqb-false, leb-true, ltb-true, ltb-false}
+use borrow.Author.Tests.{eqb-true, eqb-false, leb-true, ltb-true}
 use Rattle.x691.specs.Bits.{bit_of}
-use Rattle.atn.specs.Format.{Fmt, seq, choice, ext, noted, refuse, bad}
+use Rattle.atn.specs.Format.{Fmt, seq, choice, ext, noted}
 use Rattle.atn.specs.Alternatives.{alternatives_from}
-use Rattle.atn.specs.Reading.{Ans, stop, mark, read}
+use Rattle.atn.specs.Reading.{mark, read}
 use Rattle.atn.specs.Messages.{no_reader, unlisted, extended}
 use Rattle.atn.proofs.Inverse.{both}
 use Rattle.schema_tables.specs.Nodes.{nodes, node_word, members_from, format_of, format_at}
-use Rattle.schema_tables.specs.Tests.{below, raised, range_fits, kind_fits, node-fits, kinds_fit, first_of, count_of, first_at, count_at, links_fit}
+use Rattle.schema_tables.specs.Tests.{below, raised, range_fits, kind_fits, node_fits, kinds_fit, first_of, count_of, first_at, count_at}
 use Rattle.schema_nodes.specs.declared.node.Node.{Node}
 use Rattle.schema_nodes.specs.Row.{IsNode}
 use Rattle.schema_nodes.proofs.TestLaws.{below_at, named_in}
 use Rattle.schema_leaves.specs.declared.Step.{Step}
-use Rattle.schema_leaves.specs.Came.{Open, Came}
-use Rattle.schema_leaves.proofs.CameLaws.{came_same}
+use Rattle.schema_leaves.specs.Came.{Came}
 use Rattle.schema_parts.specs.Owed.{Leaf, Refuses}
 use Rattle.schema_walk.specs.Ready.{Ready}
 
@@ -113,11 +112,11 @@ none-fits = refl
 
 module _ (N : List ℕ) (r : Ready N) (b : length N < 2 ^ 64) (k : ℕ) {n : Node} (i : IsNode N k n) where
   pub its_kind : kind_fits n.kind n.b n.c ≡ true
-  unfolding kinds_fit node-fits nodes node_word
+  unfolding kinds_fit node_fits nodes node_word
   its_kind = rw i (go (ltb k (length N / 4)) refl)
     where
       go : (t : Bool) → ltb k (length N / 4) ≡ t → kind_fits (node_word N k 0) (node_word N k 2) (node_word N k 3) ≡ true
-      go true q = below_at (λ j. node-fits N j) k (length N / 4) (both (eqb (length N % 4) 0) (below (λ j. node-fits N j) (length N / 4)) r.kinds).1 (ltb-true k (length N / 4) q)
+      go true q = below_at (λ j. node_fits N j) k (length N / 4) (both (eqb (length N % 4) 0) (below (λ j. node_fits N j) (length N / 4)) r.kinds).1 (ltb-true k (length N / 4) q)
       go false q = rw q none-fits
 
   named : (first_of n.kind n.a n.b + count_of n.kind n.b n.c < 2 ^ 64) ⊎ (count_of n.kind n.b n.c ≡ 0)

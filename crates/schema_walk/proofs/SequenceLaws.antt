@@ -4,10 +4,10 @@ use mathlib.Core.List.{List, [], ◌∷◌}
 use Prim.Native.Nat.{ℕ, suc, ◌+◌, ◌-◌, ◌*◌, ◌≤◌, ◌<◌}
 use native.Mathlib.Omega.{arith}
 use lib.ListN.{length}
-use borrow.Author.Tests.{eq-eqb, ne_eqb}
-use Rattle.x691.specs.Bits.{bit_of, uint}
+use borrow.Author.Tests.{ne_eqb}
+use Rattle.x691.specs.Bits.{bit_of}
 use Rattle.atn.specs.Format.{Fmt, Flds, seq, out}
-use Rattle.atn.specs.Reading.{Ans, Rec, rec, ok, stop, or, mark, then, fork, fetch, flags, unread_marks, within, read, read_fields}
+use Rattle.atn.specs.Reading.{Ans, rec, ok, or, mark, fork, flags, unread_marks, within, read, read_fields}
 use Rattle.atn.proofs.Marks.{or_nil}
 use Rattle.atn.proofs.Steps.{fetch_go, fetch_no}
 use Rattle.cursor.specs.declared.place.Cursor.{Cursor}
@@ -17,7 +17,7 @@ use Rattle.schema_tables.specs.Nodes.{members_from}
 use Rattle.schema_nodes.specs.declared.node.Node.{Node}
 use Rattle.schema_nodes.specs.Row.{IsNode}
 use Rattle.schema_leaves.specs.declared.Step.{Step}
-use Rattle.schema_leaves.specs.Came.{Open, Came, went, failed}
+use Rattle.schema_leaves.specs.Came.{Open, Came, failed}
 use Rattle.schema_leaves.proofs.CameLaws.{at, came_length, came_open, came_end, came_same, came_marked, came_stops, came_then}
 use Rattle.schema_parts.specs.Member.{flag_of, member_read}
 use Rattle.schema_parts.specs.Owed.{Presence, Ahead, Unread}

@@ -1,16 +1,16 @@
 -- What is answered of the lines that were counted, and then put.
-use mathlib.Core.Bool.{Bool, true, false, cond, ◌&&◌}
-use mathlib.Core.List.{List, [], ◌∷◌, ◌++◌}
-use mathlib.Core.Path.{◌≡◌, refl, sym, ap, ◌∙◌}
+use mathlib.Core.Bool.{Bool, true, false, ◌&&◌}
+use mathlib.Core.List.{List, [], ◌++◌}
+use mathlib.Core.Path.{◌≡◌, refl, ap, ◌∙◌}
 use Prim.Native.Nat.{ℕ, ◌+◌, ◌^◌, ◌≤◌, ◌<◌}
 use native.Mathlib.Omega.{arith}
 use borrow.Author.Tests.{ltb-true, le-leb, lt-leb}
 use lib.Dec.{ltb}
-use lib.ListN.{length, take, drop}
+use lib.ListN.{length, drop}
 use Rattle.record_views.specs.View.{records_from}
 use Rattle.record_grammar.specs.Heard.{formed}
 use Rattle.element_kinds.specs.Agreed.{agreed}
-use Rattle.screen_bytes.specs.Put.{Put, puts}
+use Rattle.screen_bytes.specs.Put.{Put}
 use Rattle.screen_bytes.proofs.Putting.{puts_nowhere, puts-fits}
 use Rattle.screen_text.specs.Text.{phrased}
 use Rattle.screen.specs.Placed.{placed}

@@ -25,15 +25,15 @@ module _ (n kind : ℕ) (R : List Rec) (p : List ℕ) {b : Bracket} (h : n ≡ 0
   pub fill-all : length p ≤ b.closes → fill (values n kind R) p ≡ p
   unfolding fill values
   fill-all l =
-      let c : length p ≤ close p = rw f.close-is at l in
+      let c : length p ≤ close p = rw f.close_is at l in
       rw (one_more, le-ltb (close p) (length p) c)
 
   -- the first bracket takes the next value
   pub fill_more : b.closes < length p → fill (values n kind R) p ≡ take b.opens p ++ argument kind R ++ fill (values (n - 1) kind (drop 1 R)) (take (length p - (b.closes + 1)) (drop (b.closes + 1) p))
   unfolding fill values
   fill_more l =
-      let c : close p < length p = rw f.close-is at l in
-      ap (λ (k : ℕ). fill (values k kind R) p) one_more ∙ rw (lt-ltb (close p) (length p) c, tail p (b.closes + 1), f.open_is, f.close-is)
+      let c : close p < length p = rw f.close_is at l in
+      ap (λ (k : ℕ). fill (values k kind R) p) one_more ∙ rw (lt-ltb (close p) (length p) c, tail p (b.closes + 1), f.open_is, f.close_is)
 
 -- how long the parts of a phrase are, before its first bracket and behind it
 pub front : {p : List ℕ} {b : Bracket} → Bracketed p b → length (take b.opens p) ≡ b.opens

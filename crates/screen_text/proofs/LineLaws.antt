@@ -1,12 +1,12 @@
 -- What a record adds.
 use mathlib.Core.Bool.{Bool, true, false, cond}
-use mathlib.Core.List.{List, [], ◌∷◌, ◌++◌}
-use mathlib.Core.Path.{◌≡◌, refl, sym, ap, ◌∙◌}
+use mathlib.Core.List.{List, [], ◌∷◌}
+use mathlib.Core.Path.{◌≡◌}
 use Prim.Native.Nat.{ℕ, ◌+◌, ◌-◌, ◌*◌, ◌^◌, ◌≤◌, ◌<◌}
 use native.Mathlib.Omega.{arith}
 use borrow.Author.Tests.{eq-eqb, ne_eqb}
 use lib.Dec.{eqb}
-use lib.ListN.{length, take, drop}
+use lib.ListN.{length}
 use Rattle.atn.specs.Reading.{Rec}
 use Rattle.record_views.specs.declared.Record.{Record}
 use Rattle.phrases.specs.Phrases.{line_of}
@@ -14,7 +14,7 @@ use Rattle.screen_bytes.specs.Put.{Put}
 use Rattle.screen_bytes.proofs.Putting.{put-none, put_then, put-within}
 use Rattle.element_kinds.specs.Kinds.{kind_of}
 use Rattle.screen_elements.specs.Lines.{element_line}
-use Rattle.screen_text.specs.Text.{direction, index_line, left_after, record_line, most, cost}
+use Rattle.screen_text.specs.Text.{index_line, left_after, record_line, most, cost}
 
 -- the line and its line feed
 pub put-line : {w w₁ w₂ : List ℕ} {at m n kind : ℕ} (phrase table : List ℕ) (index : ℕ) (R : List Rec) → length phrase < 2 ^ 44 → line_of table index ≡ phrase → kind ≡ kind_of R → Put (length phrase + 1024) w w₁ at m (element_line phrase kind R) → Put 1 w₁ w₂ m n (10 ∷ []) → Put most w w₂ at n (index_line table index R)

@@ -1,16 +1,16 @@
 -- Phrases that were looked for, and whether every element has one.
 use mathlib.Core.Bool.{Bool, true, false, cond, ◌&&◌}
-use mathlib.Core.List.{List, [], ◌∷◌}
+use mathlib.Core.List.{List}
 use mathlib.Core.Option.{Option, none, some}
-use mathlib.Core.Path.{◌≡◌, refl, sym, ap, ◌∙◌}
-use Prim.Native.Nat.{ℕ, suc, ◌+◌, ◌-◌, ◌≤◌, ◌<◌}
+use mathlib.Core.Path.{◌≡◌}
+use Prim.Native.Nat.{ℕ, ◌+◌, ◌-◌, ◌≤◌, ◌<◌}
 use native.Mathlib.Numerals.{add-one}
 use native.Mathlib.Omega.{arith}
 use borrow.Author.Tests.{eq-eqb, ne_eqb}
 use lib.ListN.{length, take, drop, length-take, length-drop}
 use Rattle.phrases.specs.declared.Phrase.{Phrase}
 use Rattle.phrases.specs.Found.{Found}
-use Rattle.phrases.specs.Phrases.{phrase_of, or_nothing, line_of}
+use Rattle.phrases.specs.Phrases.{or_nothing, line_of}
 use Rattle.record_views.specs.View.{count, record_at, records_from, fetched}
 use Rattle.record_views.specs.declared.Record.{Record}
 use Rattle.record_views.proofs.ViewLaws.{from_here, from_end}

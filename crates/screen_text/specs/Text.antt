@@ -12,7 +12,7 @@ use Rattle.screen_elements.specs.Lines.{element_line}
 
 -- whose elements follow a record: 0 the aircraft's, any other the ground's. A carried message's bit is 0 for the ground's
 unfoldable pub direction : ℕ → Record → ℕ
-direction d x = cond (eqb x.tag tags.direction) x.value (cond (eqb x.tag tags.carried-direction) (cond (eqb x.value 0) 1 0) d)
+direction d x = cond (eqb x.tag tags.direction) x.value (cond (eqb x.tag tags.carried_direction) (cond (eqb x.value 0) 1 0) d)
 
 -- "a lent byte table per direction"
 unfoldable pub table_of : List ℕ → List ℕ → ℕ → List ℕ
@@ -25,7 +25,7 @@ is_some none = false
 is_some (some l) = true
 
 unfoldable pub one_phrased : List ℕ → Record → Bool
-one_phrased table x = cond (eqb x.tag tags.element-index) (is_some (phrase_of table x.value)) true
+one_phrased table x = cond (eqb x.tag tags.element_index) (is_some (phrase_of table x.value)) true
 
 unfoldable pub phrased : List ℕ → List ℕ → ℕ → List Rec → Bool
 phrased down up d [] = true
@@ -39,11 +39,11 @@ index_line table index R = element_line (line_of table index) (kind_of R) R ++ 1
 
 -- how many elements may still come behind a record
 unfoldable pub left_after : ℕ → Record → ℕ
-left_after n x = cond (eqb x.tag tags.element-index) (n - 1) n
+left_after n x = cond (eqb x.tag tags.element_index) (n - 1) n
 
 -- what a record adds: only those that begin an element do
 unfoldable pub record_line : ℕ → List ℕ → Record → List Rec → List ℕ
-record_line n table x R = cond (eqb x.tag tags.element-index) (cond (eqb n 0) [] (index_line table x.value R)) []
+record_line n table x R = cond (eqb x.tag tags.element_index) (cond (eqb n 0) [] (index_line table x.value R)) []
 
 -- the lines of at most n elements: no message has more than 8
 unfoldable pub lines : List ℕ → List ℕ → ℕ → ℕ → List Rec → List ℕ

@@ -17,7 +17,7 @@ use Rattle.length_determinants.specs.Lengths.{Ends, Measures}
 use Rattle.length_determinants.proofs.LengthLaws.{known_some, head_long, sums_last, measures_in, measures_short}
 use Rattle.pdus.specs.Pdus.{index_bits}
 use Rattle.sends.specs.declared.Send.{Send}
-use Rattle.sends.specs.Sends.{Protected, Shortest, one-octet, two_octets, Sends}
+use Rattle.sends.specs.Sends.{Protected, Shortest, one_octet, two_octets, Sends}
 
 -- a cursor of the frame, before anything was marked
 abbrev pub place : List ℕ → ℕ → Cursor
@@ -82,7 +82,7 @@ module _ {s : List ℕ} {p : ℕ} (small : length s ≤ 65536) where
       head_long (omega arith, omega arith) form (λ z. omega arith) more refl (known_some refl bits) (rw (le-leb 128 n high) (marked-nil (place s q)))
 
   pub measured : {n q : ℕ} → Shortest (bit_of s) p n q → q ≤ length s * 8 → Measures s (place s p) (record { count = n; c = place s q })
-  measured (one-octet low worth behind) held = measures_short (pulled (sym worth) behind held) refl low
+  measured (one_octet low worth behind) held = measures_short (pulled (sym worth) behind held) refl low
   measured (two_octets high low worth behind) held = measures_in small (omega arith) (simp zero-add at (sums_last {sum = 0} (omega arith, omega arith) small (omega arith) (long-form high low worth behind held)))
 
 ---------------------------------------------------------------- how they are found
@@ -101,17 +101,17 @@ module _ {at size : ℕ} (s : List ℕ) (worth : uint (bit_of s) at 16 ≡ size)
   short-length l =
       let a : uint (bit_of s) at 16 ≡ uint (bit_of s) at 8 * 2 ^ 8 + uint (bit_of s) (at + 8) 8 = uint-split (bit_of s) at 8 8 in
       let b = uint-below s (at + 8) 8 in
-      one-octet (omega arith) (omega arith) refl
+      one_octet (omega arith) (omega arith) refl
 
   pub long-length : 32896 ≤ size → size < 49152 → Shortest (bit_of s) at (size - 32768) (at + 16)
   long-length h l = two_octets (omega arith) (omega arith) (omega arith) refl
 
 length-near : {b : ℕ → ℕ} {p n q : ℕ} → Shortest b p n q → q ≤ p + 16
-length-near (one-octet l w h) = omega arith
+length-near (one_octet l w h) = omega arith
 length-near (two_octets a l w h) = omega arith
 
 pub length-few : {b : ℕ → ℕ} {p n q : ℕ} → Shortest b p n q → n < 16384
-length-few (one-octet l w h) = omega arith
+length-few (one_octet l w h) = omega arith
 length-few (two_octets a l w h) = l
 
 pub found : (d : ℕ) {s : List ℕ} {w bits : ℕ} {r : Send} → w ≡ index_bits d → 4 ≤ length s → (0 + (w + 20) ≤ length s * 8 → bits ≡ uint (bit_of s) 0 (w + 20)) → bits / 65536 % 8 ≡ 1 → Protected d (bits / 65536 / 8)

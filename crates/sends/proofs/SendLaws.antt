@@ -29,7 +29,7 @@ use Rattle.pdu_alternatives.proofs.AlternativeLaws.{down_send, up-start-or_send}
 use Rattle.pdus.specs.Pdus.{index_bits, pdu_at}
 use Rattle.pdus.proofs.PduLaws.{pdu-read}
 use Rattle.sends.specs.declared.Send.{Send}
-use Rattle.sends.specs.Sends.{Protected, Shortest, one-octet, two_octets, Sends, table_of}
+use Rattle.sends.specs.Sends.{Protected, Shortest, one_octet, two_octets, Sends, table_of}
 use Rattle.sends.proofs.HeadLaws.{place, pulled, opens, parts, measured}
 
 ---------------------------------------------------------------- the table of the direction
@@ -60,7 +60,7 @@ alternative (suc zero) index down up one (inr q) x = up-start-or_send index down
 alternative (suc (suc d)) index down up one p x = absurd (omega arith)
 
 length-behind : {b : ℕ → ℕ} {p n q : ℕ} → Shortest b p n q → p + 8 ≤ q
-length-behind (one-octet l w h) = omega arith
+length-behind (one_octet l w h) = omega arith
 length-behind (two_octets a l w h) = omega arith
 
 module _ (d : ℕ) (s : List ℕ) (r : Send) (small : length s ≤ 65536) (one : d ≤ 1) (x : Sends d s r) where

@@ -1,12 +1,12 @@
 -- A send whose message is badly formed, which is seen before anything is told.
-use mathlib.Core.Path.{◌≡◌, refl, sym, ap, ◌∙◌}
+use mathlib.Core.Path.{◌≡◌, refl, ap, ◌∙◌}
 use mathlib.Core.Bool.{Bool, true, false}
 use mathlib.Core.List.{List, [], ◌∷◌}
 use Prim.Native.Nat.{ℕ, ◌+◌, ◌*◌, ◌≤◌}
 use native.Mathlib.Omega.{arith}
 use lib.ListN.{length}
-use Rattle.x691.specs.Bits.{bit_of, uint}
-use Rattle.atn.specs.Format.{Why, out, bad, lack, quit, inner}
+use Rattle.x691.specs.Bits.{bit_of}
+use Rattle.atn.specs.Format.{out, bad, lack, quit}
 use Rattle.atn.specs.Messages.{atc_message}
 use Rattle.atn.specs.Reading.{Rec, rec, Ans, stop, or, pull, close, shut, read}
 use Rattle.atn.specs.Entries.{need}
@@ -14,10 +14,8 @@ use Rattle.atn.proofs.Steps.{pull_go}
 use Rattle.cursor.specs.declared.place.Cursor.{Cursor}
 use Rattle.cursor.specs.Place.{Inside, Led, Reads}
 use Rattle.cursor.specs.Place as cursors
-use Rattle.length_determinants.specs.Lengths.{Measures}
 use Rattle.records.specs.Space.{size, space}
 use Rattle.records.proofs.Telling.{told_unwritten}
-use Rattle.runs.specs.declared.At.{At}
 use Rattle.runs.specs.Runs.{given, Ran, stayed, went, passed, gave_up, failed, Runs}
 use Rattle.runs.proofs.RunLaws.{runs_untold, runs_within}
 use Rattle.elements.specs.Unlisted.{Fails}

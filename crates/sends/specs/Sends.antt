@@ -15,7 +15,7 @@ Protected d index = (index ≡ 3) ⊎ ((index ≡ 2) × (d ≡ 0 → ⊥))
 
 -- a length at p, in its shortest form, and the bit behind it: "each length below 16,384 and in its shortest form" (X.691, 11.9)
 pub data Shortest (b : ℕ → ℕ) (p n q : ℕ) : Type 0 where
-  one-octet : n < 128 → uint b p 8 ≡ n → q ≡ p + 8 → Shortest b p n q
+  one_octet : n < 128 → uint b p 8 ≡ n → q ≡ p + 8 → Shortest b p n q
   two_octets : 128 ≤ n → n < 16384 → uint b p 16 ≡ 32768 + n → q ≡ p + 16 → Shortest b p n q
 
 -- the choice's extension bit is clear, then its index; of the protected message the extension bit is clear, there is no algorithm, and there is a message; then the length of its string, which begins at `at`

@@ -4,7 +4,7 @@
 
 mod entries; // entries.rt: CM in both directions and ACSE, by number
 mod frames; // frames.rt: a frame by its number
-mod runs; // runs.rt: frames with the same answer
+mod alike; // alike.rt: frames with the same answer
 
 fn main() {
     each_length(entries::CM_FROM_GROUND);
@@ -13,7 +13,7 @@ fn main() {
 }
 
 fn each_length(entry: u64) {
-    runs::print_runs(entry, 0, 0);
-    runs::print_runs(entry, 1, 255);
-    runs::print_runs(entry, 2, 65535);
+    alike::print_runs(entry, 0, 0);
+    alike::print_runs(entry, 1, 255);
+    alike::print_runs(entry, 2, 65535);
 }

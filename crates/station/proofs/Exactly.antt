@@ -1,18 +1,17 @@
 -- A name is bound exactly if the message is clean, its reach does not exceed the bits that arrived, and name and number are new in a sound book with a free place.
-use Rattle.std.proofs.Common.{◌≡◌, ℕ, ◌*◌, ◌<◌, ◌≤◌, Bool, true, false, cond, not, eqb, ltb, leb, List, length, sym, refl, ap, ◌∙◌, arith, ltb-true, lt-ltb, eq-eqb, eqb-true, le-leb, leb-true}
+use Rattle.std.proofs.Common.{◌≡◌, ℕ, ◌*◌, ◌≤◌, Bool, true, false, cond, eqb, leb, List, length, sym, refl, ap, ◌∙◌, arith, ltb-true, lt-ltb, eq-eqb, eqb-true, le-leb, leb-true}
 use mathlib.Core.Option.{Option, none, some}
 use Rattle.book_entries.specs.declared.Entry.{Entry}
-use Rattle.book_entries.specs.Entries.{good}
-use Rattle.book_entries.specs.Book.{holds, numbered}
+use Rattle.book_entries.specs.Book.{holds}
 use Rattle.counted_books.specs.Counted.{shown, held, room}
 use Rattle.book_changes.specs.Changes.{insert}
 use Rattle.named_entries.proofs.GoodNames.{named-good}
 use Rattle.name_book.specs.Calls as book
-use Rattle.name_book.specs.Calls.{opened, first, add}
+use Rattle.name_book.specs.Calls.{opened, add}
 use Rattle.station.specs.declared.Offered.{Offered}
 use Rattle.station.specs.declared.Offered.TheVariants.{Bound, Repeated, Refused}
 use Rattle.station.specs.Offers.{Call, name_of, entry, answered, offer}
-use Rattle.station.specs.Sights.{Sight, same_name, sight, book_answer}
+use Rattle.station.specs.Sights.{same_name, sight, book_answer}
 use Rattle.station.specs.Binds.{Binds}
 use Rattle.station.proofs.Seen.{added, said}
 
@@ -35,7 +34,7 @@ module _ (c : Call) (w : List ℕ) where
   binds b =
       let g = named-good c.capture c.down c.up b.named c.number in
       rw (le-leb c.arrived (length c.capture * 8) b.claimed, eq-eqb (name_of c).number 0 b.named, le-leb (name_of c).reach c.arrived b.whole, b.sound, opened)
-      (rw (b.number-free, g, b.name_new, lt-ltb (length b.kept) (room w) b.place-free))
+      (rw (b.number_free, g, b.name_new, lt-ltb (length b.kept) (room w) b.place_free))
 
   -- the book, behind the tests of the call
   module _ (claimed : c.arrived ≤ length c.capture * 8) (named : (name_of c).number ≡ 0) (whole : (name_of c).reach ≤ c.arrived) where
@@ -49,7 +48,7 @@ module _ (c : Call) (w : List ℕ) where
         let t = left (λ (o : Offered). o) v.taken _ _ a (not_bound 12 (name_of c).reach 0) in
         let n = left (λ (o : Option ℕ). elim o [ some k ↦ Repeated k | none ↦ cond v.free Bound (Refused 10 (name_of c).reach 0) ]) (holds (same_name c) E) _ _ t.1 (λ z. let y : ◌≡◌ {A = ℕ} 0 1 = cc in omega arith) in
         let f = taken (λ (o : Offered). o) v.free _ _ n.1 (not_bound 10 (name_of c).reach 0) in
-        record { claimed = claimed; named = named; whole = whole; kept = E; sound = h; number-free = t.0; name_new = n.0; place-free = ltb-true (length E) (room w) f.0 }
+        record { claimed = claimed; named = named; whole = whole; kept = E; sound = h; number_free = t.0; name_new = n.0; place_free = ltb-true (length E) (room w) f.0 }
 
   pub bound : (offer c w).0 ≡ Bound → Binds c w
   unfolding offer

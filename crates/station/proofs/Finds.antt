@@ -1,17 +1,16 @@
 -- A name that was found is found with the same frame after any calls of any stations.
-use Rattle.std.proofs.Common.{◌≡◌, ℕ, suc, Bool, true, false, cond, ◌&&◌, ◌||◌, eqb, List, [], ◌∷◌, length, get_or, sym, refl, ap, ◌∙◌, true≢false, arith, eq-eqb, eqb-true}
+use Rattle.std.proofs.Common.{◌≡◌, ℕ, suc, Bool, true, false, cond, ◌&&◌, ◌||◌, eqb, List, [], ◌∷◌, get_or, sym, refl, ◌∙◌, true≢false, arith, eq-eqb, eqb-true}
 use mathlib.Core.Bool.{false≢true}
 use mathlib.Core.Option.{Option, none, some}
 use Rattle.book_entries.specs.declared.Entry.{Entry}
 use Rattle.book_entries.specs.Entries.{text, size, bytes}
-use Rattle.book_entries.specs.Book.{place, holds, named, numbered, orderly}
+use Rattle.book_entries.specs.Book.{place, holds, named, orderly}
 use Rattle.counted_books.specs.Counted.{held}
 use Rattle.book_entries.proofs.Tests.{both}
 use Rattle.book_changes.specs.Changes.{vacant}
-use Rattle.book_changes.proofs.Orderly.{alike, Fair, first-fair, others}
+use Rattle.book_changes.proofs.Orderly.{first-fair, others}
 use Rattle.name_book.specs.Calls.{first, find, look_up}
 use Rattle.name_book.specs.declared.Found as found
-use Rattle.name_book.specs.declared.Found.{Found}
 use Rattle.station.specs.Shifts.{Turn, run}
 use Rattle.station.proofs.Stays.{bindings_stay}
 

@@ -1,5 +1,5 @@
 -- Each way through a call is one of the definition.
-use Rattle.std.proofs.Common.{◌≡◌, ℕ, ◌*◌, ◌/◌, ◌%◌, ◌<◌, ◌≤◌, true, false, cond, eqb, leb, List, length, sym, refl, ap, ◌∙◌, arith, eq-eqb, ne_eqb, le-leb}
+use Rattle.std.proofs.Common.{◌≡◌, ℕ, ◌*◌, ◌/◌, ◌%◌, ◌<◌, ◌≤◌, true, false, eqb, leb, List, length, arith, eq-eqb, ne_eqb, le-leb}
 use native.Mathlib.Decide.{ℕ_discrete}
 use borrow.Author.Tests.{lt-leb}
 use Rattle.forward_names.specs.declared.Named.{Named}
@@ -7,10 +7,10 @@ use Rattle.named_entries.proofs.GoodNames.{short, small}
 use Rattle.name_book.specs.declared.Added.{Added}
 use Rattle.name_book.specs.Calls.{add, Leaves}
 use Rattle.station.specs.declared.Offered.{Offered}
-use Rattle.station.specs.declared.Offered.TheVariants.{Bound, Repeated, Refused}
+use Rattle.station.specs.declared.Offered.TheVariants.{Refused}
 use Rattle.station.specs.declared.Shift.{Shift}
 use Rattle.station.specs.Offers.{Call, name_of, entry, answered, offer}
-use Rattle.station.specs.Shifts.{counted, offer-counted}
+use Rattle.station.specs.Shifts.{counted, offer_counted}
 
 -- the call c on the book w, which answers r
 module _ (c : Call) (w : List ℕ) {r : Offered} where
@@ -33,8 +33,8 @@ module _ (c : Call) (w : List ℕ) {r : Offered} where
       booked l i a = record { is = rw (a, e, h, eq-eqb (name_of c).number 0 (rw e at z), le-leb (name_of c).reach c.arrived (rw e at l), ← i.is) }
 
 -- the answer is counted behind the book's
-pub then-counted : (s : Shift) (c : Call) (w : List ℕ) {f : Shift} {v : List ℕ} {a : Offered} → Leaves a v (offer c w) → f ≡ counted s a → Leaves (record { answer = a; shift = f }) v (offer-counted s c w)
-unfolding offer-counted
+pub then-counted : (s : Shift) (c : Call) (w : List ℕ) {f : Shift} {v : List ℕ} {a : Offered} → Leaves a v (offer c w) → f ≡ counted s a → Leaves (record { answer = a; shift = f }) v (offer_counted s c w)
+unfolding offer_counted
 then-counted s c w l e = record { is = rw (e, ← l.is) }
 
 -- what the entry of a name asks for

@@ -1,17 +1,15 @@
 -- A station's answer is a function of its call and of what that sees of the book.
-use Rattle.std.proofs.Common.{◌≡◌, ℕ, ◌*◌, Bool, true, false, cond, not, eqb, ltb, leb, List, length, sym, refl, ap, ◌∙◌, eqb-true}
-use mathlib.Core.Option.{none, some}
+use Rattle.std.proofs.Common.{◌≡◌, ℕ, ◌*◌, Bool, true, false, eqb, ltb, leb, List, length, sym, refl, ap, ◌∙◌, eqb-true}
+use mathlib.Core.Option.{some}
 use Rattle.book_entries.specs.declared.Entry.{Entry}
 use Rattle.book_entries.specs.Entries.{good}
 use Rattle.book_entries.specs.Book.{holds, numbered}
 use Rattle.counted_books.specs.Counted.{held, room}
 use Rattle.named_entries.proofs.GoodNames.{named-good}
 use Rattle.name_book.specs.Calls as book
-use Rattle.name_book.specs.Calls.{opened, first, add}
-use Rattle.station.specs.declared.Offered.{Offered}
-use Rattle.station.specs.declared.Offered.TheVariants.{Bound, Repeated, Refused}
+use Rattle.name_book.specs.Calls.{opened, add}
 use Rattle.station.specs.Offers.{Call, name_of, entry, answered, offer}
-use Rattle.station.specs.Sights.{Sight, same_name, sight, book_answer, answer}
+use Rattle.station.specs.Sights.{same_name, sight, book_answer, answer}
 
 module _ (c : Call) where
   -- the book's answer to an entry that has a name

@@ -1,14 +1,14 @@
 -- "At shift's end the captures offered equal the bound, the repeated and the turned away, each counted from the calls made."
-use Rattle.std.proofs.Common.{◌≡◌, ℕ, suc, ◌+◌, ◌%◌, ◌^◌, ◌<◌, ◌≤◌, Bool, true, false, cond, eqb, List, [], ◌∷◌, length, sym, refl, ap, ◌∙◌, arith, eqb-true}
+use Rattle.std.proofs.Common.{◌≡◌, ℕ, suc, ◌+◌, ◌^◌, ◌<◌, Bool, true, false, cond, eqb, List, [], ◌∷◌, length, refl, ap, ◌∙◌, arith, eqb-true}
 use Rattle.station.specs.declared.Offered.{Offered}
 use Rattle.station.specs.declared.Offered.TheVariants.{Bound, Repeated, Refused}
 use Rattle.station.specs.declared.Shift.{Shift}
 use Rattle.station.specs.Offers.{Call, offer}
-use Rattle.station.specs.Shifts.{none_yet, next, is_bound, is_repeated, is_refused, counted, offer-counted, Turn, Day, begun, after, worked, run, calls_of, answers_of, counting, times, Balanced}
+use Rattle.station.specs.Shifts.{none_yet, next, is_bound, is_repeated, is_refused, counted, offer_counted, Turn, Day, begun, after, worked, run, calls_of, answers_of, counting, times, Balanced}
 
 -- the shift of each station has counted the answers to its own calls, whosever calls stood between them
 pub counts_own : (p : ℕ) (d : Day) (ts : List Turn) → (worked d ts).shift p ≡ counting (d.shift p) (answers_of p d.book ts)
-unfolding worked after offer-counted answers_of counting
+unfolding worked after offer_counted answers_of counting
 counts_own p d [] = refl
 counts_own p d (t ∷ ts) = counts_own p (after d t) ts ∙ go (eqb t.station p) refl
   where
@@ -24,7 +24,7 @@ counts_own p d (t ∷ ts) = counts_own p (after d t) ts ∙ go (eqb t.station p)
 
 -- and the book is what the calls leave
 pub same_book : (d : Day) (ts : List Turn) → (worked d ts).book ≡ run d.book ts
-unfolding worked after offer-counted run
+unfolding worked after offer_counted run
 same_book d [] = refl
 same_book d (t ∷ ts) = same_book (after d t) ts
 

@@ -15,6 +15,6 @@ pub record Binds (c : Call) (w : List ℕ) : Type 0 where
   pub whole : (name_of c).reach ≤ c.arrived
   pub kept : List Entry
   pub sound : held w ≡ some kept
-  pub number-free : holds (numbered c.number) kept ≡ false
+  pub number_free : holds (numbered c.number) kept ≡ false
   pub name_new : holds (same_name c) kept ≡ false
-  pub place-free : length kept < room w
+  pub place_free : length kept < room w

@@ -2,7 +2,7 @@
 use Rattle.std.specs.Prelude.{ℕ, ◌*◌, cond, List, length, ◌==◌, nat_le}
 use Rattle.book_entries.specs.declared.Entry.{Entry}
 use Rattle.forward_names.specs.declared.Named.{Named}
-use Rattle.forward_names.specs.Names.{forward-name}
+use Rattle.forward_names.specs.Names.{forward_name}
 use Rattle.named_entries.specs.Made.{entry_of}
 use Rattle.name_book.specs.declared.Added.{Added}
 use Rattle.name_book.specs.declared.Added as added
@@ -23,7 +23,7 @@ call s a k down up = record { capture = s; arrived = a; number = k; down = down;
 
 -- the name in the capture, by the uplink reading
 abbrev pub name_of : Call → Named
-name_of c = forward-name c.capture c.down c.up
+name_of c = forward_name c.capture c.down c.up
 
 -- "binds a name to a calibration number (its frame number in the book)"
 abbrev pub entry : Call → Entry

@@ -34,9 +34,9 @@ abbrev pub counted : Shift → Offered → Shift
 counted s a = record { offered = next s.offered; bound = cond (is_bound a) (next s.bound) s.bound; repeated = cond (is_repeated a) (next s.repeated) s.repeated; refused = cond (is_refused a) (next s.refused) s.refused }
 
 -- a call in a shift: its answer, the shift that has counted it, and what the book holds afterwards
-unfoldable pub offer-counted : Shift → Call → List ℕ → Outcome × List ℕ
+unfoldable pub offer_counted : Shift → Call → List ℕ → Outcome × List ℕ
 unfolding offer
-offer-counted s c w = (record { answer = (offer c w).0; shift = counted s (offer c w).0 }, (offer c w).1)
+offer_counted s c w = (record { answer = (offer c w).0; shift = counted s (offer c w).0 }, (offer c w).1)
 
 -- a call, and the station that makes it
 pub record Turn : Type 0 where
@@ -54,9 +54,9 @@ begun w = record { shift = λ p. none_yet; book = w }
 
 -- a station makes a call in its shift, and goes on with the shift that it is given
 unfoldable pub after : Day → Turn → Day
-unfolding offer-counted
+unfolding offer_counted
 after d t =
-    let o = offer-counted (d.shift t.station) t.made d.book in
+    let o = offer_counted (d.shift t.station) t.made d.book in
     record { shift = λ p. cond (t.station == p) o.0.shift (d.shift p); book = o.1 }
 
 -- "Two stations share one book": after their calls, in the order in which they are made

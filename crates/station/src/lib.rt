@@ -1,8 +1,10 @@
 // The programmer station: binds the name in a capture to a calibration number, its frame number in the day's name book.
+#![tactic(auto)]
+
 ghost use Rattle.std.specs.Prelude.{◌≡◌, ◌*◌, nat_le};
 ghost use Rattle.name_book.specs.Calls.{Leaves};
 ghost use Rattle.station.specs.Offers.{call, offer as Offers·offer, answered as Offers·answered};
-ghost use Rattle.station.specs.Shifts.{none_yet, next as Shifts·next, counted as Shifts·counted, offer-counted};
+ghost use Rattle.station.specs.Shifts.{none_yet, next as Shifts·next, counted as Shifts·counted, offer_counted};
 
 use forward_names::forward_name;
 use name_book::{Added, add_entry};
@@ -49,7 +51,7 @@ pub fn offer(
     up: &[u8],
     book: &mut [u32],
 ) -> Outcome
-    ensures { Leaves result book.new (offer-counted shift (call capture.now arrived number down.now up.now) book.old) }
+    ensures { Leaves result book.new (offer_counted shift (call capture.now arrived number down.now up.now) book.old) }
 {
     let answer = bind(capture, arrived, number, down, up, book);
     let after = counted(shift, answer);

@@ -1,21 +1,19 @@
 -- Characters of four bits, told twice: those of the source, and those of X.680 if it has one for each.
-use mathlib.Core.Path.{◌≡◌, refl, ◌∙◌}
-use mathlib.Core.Bool.{Bool, true, false, cond, ◌&&◌}
-use mathlib.Core.List.{List, []}
+use mathlib.Core.Path.{◌≡◌, ◌∙◌}
+use mathlib.Core.Bool.{Bool, true, false, ◌&&◌}
+use mathlib.Core.List.{List}
 use Prim.Native.Nat.{ℕ, zero, suc, ◌+◌, ◌-◌, ◌*◌, ◌≤◌, ◌<◌}
-use native.Mathlib.Nat.{suc-mul}
-use native.Mathlib.Numerals.{add-one}
 use native.Mathlib.Omega.{arith}
 use lib.Dec.{leb}
 use borrow.Author.Tests.{le-leb, lt-leb}
 use Rattle.x691.specs.Bits.{bit_of, uint}
 use Rattle.x691.specs.Range.{All}
 use Rattle.per.proofs.Laws.{uint-below}
-use Rattle.atn.specs.Reading.{octets, coded, spaced, units, none_above}
+use Rattle.atn.specs.Reading.{octets, spaced, units, none_above}
 use Rattle.numeric_strings.specs.Spacing.{spaced_octets}
 use Rattle.numeric_strings.proofs.SpacingLaws.{octets-spaced}
 use Rattle.tell.specs.declared.characters.Run.{Run}
-use Rattle.tell.specs.Characters.{units_from, counted, from, Spelt}
+use Rattle.tell.specs.Characters.{counted, from, Spelt}
 
 ---------------------------------------------------------------- the test
 

@@ -1,5 +1,7 @@
 // A shift of two stations that share a book with room for two names. A line is the station, its calibration number, the bits that arrived, the capture and the answer.
 // The file `stdout` is written by hand from documents 01 and 02.
+#![tactic(auto)]
+
 mod turns; // turns.rt: a call with its line
 mod ends; // ends.rt: what is held and counted at the end
 

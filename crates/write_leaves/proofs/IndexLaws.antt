@@ -6,7 +6,6 @@ use Prim.Native.Nat.{ℕ, suc, ◌+◌, ◌-◌, ◌^◌, ◌≤◌, ◌<◌}
 use native.Mathlib.Omega.{arith}
 use lib.Dec.{ltb}
 use borrow.Author.Tests.{lt-ltb, le-ltb}
-use Rattle.x691.specs.Bits.{bits_of}
 use Rattle.x691.specs.Encoding.{width}
 use Rattle.x691.proofs.BitLaws.{length-bits_of}
 use Rattle.x691.proofs.Widths.{unit-fits}
@@ -15,7 +14,7 @@ use Rattle.record_lists.specs.Parse.{Got, no, got, begins, keep}
 use Rattle.record_lists.proofs.Forth.{nothing}
 use Rattle.pens.specs.declared.Pen.{Pen}
 use Rattle.pens.specs.Rest.{items}
-use Rattle.pens.specs.Writes.{limit, Took, Writes, Inks}
+use Rattle.pens.specs.Writes.{Inks}
 use Rattle.pens.proofs.FrontLaws.{value, leaf_end, leaf_front, one-begins}
 use Rattle.pens.proofs.GotLaws.{writes_none}
 use Rattle.pens.proofs.PenLaws.{writes_still, writes_got}

@@ -1,10 +1,10 @@
 -- The characters of a text by the number that names them.
-use mathlib.Core.Path.{◌≡◌, refl}
+use mathlib.Core.Path.{◌≡◌}
 use mathlib.Core.Bool.{true, false, not, ◌&&◌}
 use mathlib.Core.List.{List}
 use Prim.Native.Nat.{ℕ, ◌+◌, ◌-◌, ◌≤◌, ◌<◌}
 use lib.Dec.{leb, ltb, eqb}
-use borrow.Author.Tests.{leb-true, ltb-true, eqb-true, lt-ltb, le-ltb, not-true}
+use borrow.Author.Tests.{leb-true, eqb-true, lt-ltb, le-ltb, not-true}
 use Rattle.atn.specs.Format.{text, first, numeric}
 use Rattle.atn.proofs.Inverse.{both}
 use Rattle.record_lists.specs.Kinds.{span_tag}

@@ -1,16 +1,15 @@
 -- What the parts of a node owe each other, in the words of their contracts.
-use mathlib.Core.Path.{◌≡◌, refl, sym, ap, ◌∙◌}
+use mathlib.Core.Path.{◌≡◌, sym, ◌∙◌}
 use mathlib.Core.Bool.{Bool, true, false, not, ◌&&◌}
 use mathlib.Core.List.{List, [], ◌∷◌}
-use Prim.Native.Nat.{ℕ, zero, suc, ◌+◌, ◌-◌, ◌^◌, ◌≤◌, ◌<◌}
+use Prim.Native.Nat.{ℕ, suc, ◌+◌, ◌-◌, ◌^◌, ◌≤◌, ◌<◌}
 use native.Mathlib.Omega.{arith}
-use lib.Dec.{eqb}
-use borrow.Author.Tests.{eqb-true, not-true}
+use borrow.Author.Tests.{not-true}
 use Rattle.x691.specs.Bits.{bits_of}
 use Rattle.x691.specs.Encoding.{width}
 use Rattle.x691.proofs.Widths.{width-holds}
 use Rattle.atn.specs.Format.{Fmt, Flds}
-use Rattle.atn.specs.Reading.{Ctx, flags}
+use Rattle.atn.specs.Reading.{Ctx}
 use Rattle.atn.proofs.Inverse.{both}
 use Rattle.bit_writer.specs.Put.{set_bits}
 use Rattle.record_lists.specs.Clear.{firsts}

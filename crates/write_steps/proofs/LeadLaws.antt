@@ -1,6 +1,6 @@
 -- A node above one part, by its kind.
-use mathlib.Core.Path.{◌≡◌, refl, sym, ap, ◌∙◌}
-use mathlib.Core.Bool.{Bool, true, false, cond, not, ◌&&◌}
+use mathlib.Core.Path.{◌≡◌, refl, ap, ◌∙◌}
+use mathlib.Core.Bool.{Bool, true, false, not, ◌&&◌}
 use mathlib.Core.Logic.{◌⊎◌, inl, inr}
 use mathlib.Core.List.{List, [], ◌∷◌}
 use Prim.Native.Nat.{ℕ, zero, suc, ◌+◌, ◌-◌, ◌≤◌, ◌<◌}
@@ -8,7 +8,6 @@ use native.Mathlib.Omega.{arith}
 use lib.ListN.{length, get_or}
 use lib.Dec.{leb, ltb, eqb}
 use borrow.Author.Tests.{leb-true, ltb-true, le-leb, lt-leb, not-true, eqb-true, eqb-false}
-use Rattle.x691.specs.Bits.{bits_of}
 use Rattle.x691.specs.Encoding.{width, highest, count, encode}
 use Rattle.atn.specs.Format.{Fmt, noted, placed, element, ext, choice, soft, lax, Alts, type_of, alternatives_of}
 use Rattle.atn.specs.Alternatives.{alternatives_from}
@@ -18,7 +17,7 @@ use Rattle.atn.proofs.Inverse.{both}
 use Rattle.atn.proofs.Alternatives.{count-from}
 use Rattle.record_lists.specs.Items.{Item, plain}
 use Rattle.record_lists.specs.Kinds.{span_tag}
-use Rattle.record_lists.specs.Parse.{Got, no, got, peel, parse}
+use Rattle.record_lists.specs.Parse.{peel, parse}
 use Rattle.node_tables.specs.declared.Node.{Node}
 use Rattle.node_tables.specs.Nodes.{format_of, lent_alternatives, lent_table}
 use Rattle.node_tables.specs.Sure.{sure_of, sure_each}

@@ -4,8 +4,6 @@ use mathlib.Core.Bool.{Bool, true, false, not, ◌&&◌, false≢true}
 use mathlib.Core.List.{List, [], ◌∷◌}
 use Prim.Native.Nat.{ℕ, zero, suc, ◌+◌, ◌≤◌, ◌<◌}
 use native.Mathlib.Omega.{arith}
-use lib.Dec.{eqb}
-use borrow.Author.Tests.{eqb-true}
 use Rattle.x691.specs.Bits.{bits_of}
 use Rattle.x691.specs.Range.{member}
 use Rattle.atn.specs.Format.{Fmt, Flds, ◌⨾◌}

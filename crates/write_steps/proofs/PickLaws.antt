@@ -1,14 +1,13 @@
 -- The alternative that an index names.
 use mathlib.Core.Path.{◌≡◌, refl, sym, ap, ◌∙◌}
 use mathlib.Core.Bool.{Bool, true, false, cond}
-use mathlib.Core.Logic.{◌⊎◌, inl, inr}
+use mathlib.Core.Logic.{inl, inr}
 use mathlib.Core.List.{List, [], ◌∷◌}
 use Prim.Native.Nat.{ℕ, zero, suc, ◌+◌, ◌-◌, ◌≤◌, ◌<◌}
 use native.Mathlib.Omega.{arith}
 use lib.ListN.{length, get_or}
 use lib.Dec.{leb, ltb}
 use borrow.Author.Tests.{ltb-false}
-use Rattle.x691.specs.Types.{Value, Pick}
 use Rattle.x691.specs.Encoding.{count, encode, encode_pick}
 use Rattle.atn.specs.Format.{Fmt, choice, Alts, none_left, ◌∥◌, type_of, alternatives_of}
 use Rattle.atn.specs.Alternatives.{alternatives_from}
@@ -18,7 +17,7 @@ use Rattle.record_lists.specs.Items.{Item, plain}
 use Rattle.record_lists.specs.Parse.{Got, no, got, value_of, leaf, keep, feed, turn, parse, parse_pick}
 use Rattle.node_tables.specs.Nodes.{lent_alternatives}
 use Rattle.pens.specs.declared.Pen.{Pen}
-use Rattle.pens.specs.Writes.{Took, Wrote}
+use Rattle.pens.specs.Writes.{Wrote}
 use Rattle.write_leaves.specs.Index.{index_of}
 
 pub nth : Alts → ℕ → Fmt

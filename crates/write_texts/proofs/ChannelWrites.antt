@@ -6,7 +6,7 @@ use lib.ListN.{get_or}
 use Rattle.x691.specs.Encoding.{encode}
 use Rattle.atn.specs.Format.{text, first, numeric, type_of}
 use Rattle.record_lists.specs.Items.{Item, plain}
-use Rattle.record_lists.specs.Parse.{peel, feed, turn, parse}
+use Rattle.record_lists.specs.Parse.{peel, parse}
 use Rattle.pens.specs.declared.Pen.{Pen}
 use Rattle.pens.specs.Rest.{items}
 use Rattle.pens.specs.Writes.{Writes, Part}

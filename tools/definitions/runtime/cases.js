@@ -4,10 +4,10 @@
 const { force, given, listed } = require('./values.js');
 
 const ENTRIES = {
-  apdu: (entries, c) => entries['parse-apdu'](c.frame, c.down, c.up, c.words),
-  pdus: (entries, c) => entries['parse-pdus'](c.frame, number(c.direction), c.down, c.up, c.words),
-  cm: (entries, c) => entries['parse-cm'](c.frame, number(c.direction), c.words),
-  acse: (entries, c) => entries['parse-acse-apdu'](c.frame, c.words),
+  apdu: (entries, c) => entries['parse_apdu'](c.frame, c.down, c.up, c.words),
+  pdus: (entries, c) => entries['parse_pdus'](c.frame, number(c.direction), c.down, c.up, c.words),
+  cm: (entries, c) => entries['parse_cm'](c.frame, number(c.direction), c.words),
+  acse: (entries, c) => entries['parse_acse_apdu'](c.frame, c.words),
 };
 
 function bytes(text) {

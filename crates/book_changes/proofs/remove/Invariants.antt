@@ -3,7 +3,7 @@ use mathlib.Core.List.{◌++◌}
 use Prim.Native.Nat.{◌*◌, ◌+◌, ◌-◌}
 use lib.ListN.{take}
 use Rattle.book_entries.specs.Book.{picture}
-use Rattle.book_entries.proofs.Places.{from, places}
+use Rattle.book_entries.proofs.Places.{from}
 use Rattle.book_changes.proofs.ChangeLaws.{Removing}
 use Rattle.book_changes.proofs.remove.Given as goal
 

@@ -3,7 +3,6 @@ use mathlib.Core.Path.{sym, ◌∙◌}
 use mathlib.Core.Bool.{true, false}
 use Prim.Native.Nat.{◌+◌}
 use native.Mathlib.Omega.{arith}
-use borrow.Author.Tests.{not-true, not-false}
 use Rattle.book_entries.specs.Entries.{good, entry_at}
 use Rattle.book_entries.proofs.Places.{from, inside_of, counted}
 use Rattle.book_search.proofs.SearchLaws.{told, bad, falling, fresh}

@@ -3,7 +3,7 @@ use mathlib.Core.Path.{◌≡◌}
 use Prim.Native.Nat.{◌+◌, ◌-◌, ◌*◌, ◌≤◌}
 use lib.ListN.{length}
 use Rattle.book_entries.specs.Book.{place, named}
-use Rattle.book_entries.proofs.Places.{from, places}
+use Rattle.book_entries.proofs.Places.{from}
 use Rattle.book_search.proofs.find_name.Given as goal
 
 abbrev pub invariant-loop-i : goal.invariant-loop-i

@@ -1,7 +1,6 @@
 use mathlib.Core.Path.{refl, sym, ◌∙◌}
 use Prim.Native.Nat.{◌-◌}
 use native.Mathlib.Omega.{arith}
-use borrow.Author.Tests.{not-true, not-false}
 use Rattle.book_entries.proofs.Places.{places}
 use Rattle.book_search.proofs.SearchLaws.{unfair, turn, all-orderly, unsound, judged}
 use Rattle.book_search.proofs.sound.Goals as goal

@@ -4,7 +4,7 @@ use mathlib.Core.List.{[]}
 use Prim.Native.Nat.{◌-◌, ◌≤◌}
 use lib.ListN.{length, drop}
 use Rattle.book_lines.specs.Lines.{lines}
-use Rattle.book_text.proofs.CutLaws.{part, grown}
+use Rattle.book_text.proofs.CutLaws.{part}
 use Rattle.book_text.proofs.find_feed.Given as goal
 
 abbrev pub invariant-loop-i : goal.invariant-loop-i

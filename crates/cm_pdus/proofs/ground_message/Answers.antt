@@ -31,7 +31,7 @@ returns-then-index-eq4 c = does_alternative 3272 cm_abort (omega arith) (λ x u 
 
 pub returns-then-index-eq5 : goal.returns-then-index-eq5
 unfolding read_choice lowest highest
-returns-then-index-eq5 c = does_alternative 3272 (num tag.cm-forward_response 0 2) (omega arith) (λ x u q. rw c.if-index-eq5.true) c.number.ensures
+returns-then-index-eq5 c = does_alternative 3272 (num tag.cm_forward_response 0 2) (omega arith) (λ x u q. rw c.if-index-eq5.true) c.number.ensures
 
 pub returns : goal.returns
 returns c = does_unlisted 3272 c.refuse-2.ensures (λ x u q. ground_unlisted c.args.s.now x u q c.args.index (omega arith))

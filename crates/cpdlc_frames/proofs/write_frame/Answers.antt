@@ -39,4 +39,4 @@ pub returns : goal.returns
 returns c = λ _. says-written c.args.words.now c.args.cut c.args.v c.words_for-need.ensures _ _ _ _ c.if-words-need.false c.start.ensures c.read_pdu.ensures
 
 pub shape_of-words : goal.shape_of-words
-shape_of-words c = length_front c.args.words.now c.read_pdu.new.1.0 c.words_for-need.result (told-length c.read_pdu.ensures.told)
+shape_of-words c = length_front c.args.words.now c.read_pdu.new.words c.words_for-need.result (told-length c.read_pdu.ensures.told)

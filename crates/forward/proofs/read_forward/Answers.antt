@@ -1,7 +1,5 @@
 use native.Mathlib.Omega.{arith}
-use Rattle.records.proofs.Telling.{told-length}
 use Rattle.runs.proofs.RunLaws.{runs_stayed, runs_within}
-use Rattle.inner_strings.proofs.StringLaws.{lost, found}
 use Rattle.forward.proofs.ForwardLaws.{forward_lost, forward-read}
 use Rattle.forward.proofs.read_forward.Goals as goal
 

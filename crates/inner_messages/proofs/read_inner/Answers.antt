@@ -1,7 +1,5 @@
 use native.Mathlib.Omega.{arith}
-use Rattle.records.proofs.Telling.{told-length}
 use Rattle.runs.proofs.RunLaws.{runs_stayed, runs_within}
-use Rattle.inner_strings.proofs.StringLaws.{lost, found}
 use Rattle.inner_messages.proofs.InnerLaws.{string_lost}
 use Rattle.inner_messages.proofs.read_inner.Goals as goal
 

@@ -1,5 +1,5 @@
 use mathlib.Core.Path.{◌∙◌}
-use mathlib.Core.Logic.{⊎_elim, inl, inr}
+use mathlib.Core.Logic.{inl, inr}
 use borrow.Author.Tests.{le-leb, lt-leb}
 use Rattle.atn.specs.Reading.{unless, mark}
 use Rattle.cursor.proofs.Laws.{marked-nil}

@@ -1,7 +1,6 @@
 -- The invariant: so many lines have been read. The measure is what is left of the text.
 use Prim.Native.Nat.{◌-◌}
 use lib.ListN.{length}
-use Rattle.book_lines.specs.Lines.{lines}
 use Rattle.loaded_books.proofs.LoadLaws.{Counting}
 use Rattle.loaded_books.proofs.count_lines.Given as goal
 

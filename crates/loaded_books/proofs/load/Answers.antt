@@ -1,11 +1,8 @@
 -- A sound book: its places are lent, and the number in front is set anew.
-use mathlib.Core.Path.{◌≡◌}
-use mathlib.Core.List.{List, []}
-use mathlib.Core.Option.{some}
-use Prim.Native.Nat.{ℕ}
+use mathlib.Core.List.{[]}
 use lib.ListN.{drop}
 use Rattle.book_entries.specs.Book.{entries}
-use Rattle.counted_books.specs.Counted.{held, room}
+use Rattle.counted_books.specs.Counted.{room}
 use Rattle.counted_books.proofs.Held.{holding}
 use Rattle.name_book.proofs.CallLaws.{unheld, is_held, lent-long, lent-listed, back_long, opened-none, opened-changed}
 use Rattle.book_lines.specs.Lines.{lines}

@@ -2,7 +2,7 @@ use mathlib.Core.Path.{refl, ◌∙◌}
 use native.Mathlib.Omega.{arith}
 use Rattle.x691.specs.Types.{extent}
 use Rattle.x691.specs.Encoding.{width, width_in}
-use Rattle.passed_arguments.proofs.ArgumentLaws.{of_byte, nothing, position, speed, speed-type, speed-types, level, degrees, frequency, code, traffic_type, clearance_type, error-information, facility_function, procedure, runway, coordinates, departure}
+use Rattle.passed_arguments.proofs.ArgumentLaws.{of_byte, nothing, position, speed, speed_type, speed-types, level, degrees, frequency, code, traffic_type, clearance_type, error_information, facility_function, procedure, runway, coordinates, departure}
 use Rattle.passed_arguments.proofs.pass_argument.Goals as goal
 
 pub pass_position-requires : goal.pass_position-requires
@@ -80,7 +80,7 @@ pub returns-in-2 : goal.returns-in-2
 returns-in-2 c = λ z. of_byte c.in-2.is (speed c.requires.2 (c.pass_quantity.ensures z))
 
 pub returns-in-3 : goal.returns-in-3
-returns-in-3 c = λ z. of_byte c.in-3.is (speed-type c.requires.2 (c.pass_name.ensures z))
+returns-in-3 c = λ z. of_byte c.in-3.is (speed_type c.requires.2 (c.pass_name.ensures z))
 
 pub returns-in-4 : goal.returns-in-4
 returns-in-4 c = λ z. of_byte c.in-4.is (speed-types c.requires.2 (c.pass_triple.ensures z))
@@ -104,7 +104,7 @@ pub returns-in-10 : goal.returns-in-10
 returns-in-10 c = λ z. of_byte c.in-10.is (clearance_type c.requires.2 (c.pass_name-in-10.ensures z))
 
 pub returns-in-11 : goal.returns-in-11
-returns-in-11 c = λ z. of_byte c.in-11.is (error-information c.requires.2 (c.pass_name-in-11.ensures z))
+returns-in-11 c = λ z. of_byte c.in-11.is (error_information c.requires.2 (c.pass_name-in-11.ensures z))
 
 pub returns-in-12 : goal.returns-in-12
 returns-in-12 c = λ z. of_byte c.in-12.is (facility_function c.requires.2 (c.pass_name-in-12.ensures z))

@@ -1,9 +1,6 @@
 use mathlib.Core.Path.{refl}
 use borrow.Author.Rules.{rules}
 use Rattle.pens.proofs.PenLaws.{ink_far, ink-near}
-use Rattle.pens.proofs.ink.Reads as reads
-use Rattle.pens.proofs.ink.Lts as lts
-use Rattle.bit_writer.proofs.number.put.Reads as put_reads
 use Rattle.pens.proofs.ink.Goals as goal
 
 pub returns-then-at-gt-LIMIT : goal.returns-then-at-gt-LIMIT

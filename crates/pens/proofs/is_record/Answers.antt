@@ -3,8 +3,6 @@ use mathlib.Core.Bool.{false≢true}
 use borrow.Author.Rules.{rules}
 use Rattle.record_lists.specs.Items.{plain}
 use Rattle.pens.proofs.RestLaws.{record_last, record-value, record-element, record-tag, record-end}
-use Rattle.pens.proofs.is_record.Reads as reads
-use Rattle.pens.proofs.is_record.Lts as lts
 use Rattle.pens.proofs.is_record.Goals as goal
 
 pub overflow_mul-k : goal.overflow_mul-k

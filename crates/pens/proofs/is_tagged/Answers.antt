@@ -1,8 +1,6 @@
 use mathlib.Core.Path.{sym}
 use borrow.Author.Rules.{rules}
 use Rattle.pens.proofs.RestLaws.{tagged_at, tagged_end}
-use Rattle.pens.proofs.is_tagged.Reads as reads
-use Rattle.pens.proofs.is_tagged.Lts as lts
 use Rattle.pens.proofs.is_tagged.Goals as goal
 
 pub overflow_mul-result : goal.overflow_mul-result

@@ -3,10 +3,6 @@ use native.Mathlib.Omega.{arith}
 use borrow.Author.Rules.{rules}
 use Rattle.pens.proofs.RestLaws.{items-drop}
 use Rattle.pens.proofs.PenLaws.{writes_still, took_record, other_record}
-use Rattle.pens.proofs.take.Reads as reads
-use Rattle.pens.proofs.take.Lts as lts
-use Rattle.pens.proofs.is_record.Reads as is-record-reads
-use Rattle.pens.proofs.refuse.Reads as refuse-reads
 use Rattle.pens.proofs.take.Goals as goal
 
 pub returns-then-p : goal.returns-then-p

@@ -3,7 +3,6 @@ use mathlib.Core.Path.{◌≡◌}
 use Prim.Native.Nat.{◌-◌, ◌≤◌}
 use lib.ListN.{length, drop}
 use Rattle.phrases.specs.Phrases.{phrase_of}
-use Rattle.phrases.proofs.PhraseLaws.{passed}
 use Rattle.phrases.proofs.phrase_of.Given as goal
 
 abbrev pub invariant-loop-from : goal.invariant-loop-from

@@ -1,11 +1,4 @@
 -- A sound book: its places are lent.
-use mathlib.Core.Path.{◌≡◌}
-use mathlib.Core.List.{List}
-use mathlib.Core.Option.{some}
-use Prim.Native.Nat.{ℕ}
-use lib.ListN.{drop}
-use Rattle.book_entries.specs.Book.{entries}
-use Rattle.counted_books.specs.Counted.{held}
 use Rattle.name_book.proofs.CallLaws.{unheld, is_held, lent-long}
 use Rattle.saved_books.proofs.SaveLaws.{save_unsound, lent-orderly, save-sound}
 use Rattle.saved_books.proofs.save.Goals as goal

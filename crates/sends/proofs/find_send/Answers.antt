@@ -1,5 +1,4 @@
 use native.Mathlib.Omega.{arith}
-use borrow.Author.Tests.{not-false}
 use Rattle.sends.proofs.HeadLaws.{narrow, found}
 use Rattle.sends.proofs.find_send.Goals as goal
 

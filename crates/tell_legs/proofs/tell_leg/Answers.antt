@@ -1,5 +1,4 @@
 use native.Mathlib.Omega.{arith}
-use borrow.Author.Rules.{rules}
 use Rattle.records.proofs.Telling.{told_none, told-then, told-within, told-length}
 use Rattle.named_places.specs.Names.{Held}
 use Rattle.legs.specs.Legs.{HeldLeg, leg_recs}

@@ -1,4 +1,3 @@
-use borrow.Author.Rules.{rules}
 use native.Mathlib.Omega.{arith}
 use Rattle.records.proofs.Telling.{told_none, told-then, told-within, told-length}
 use Rattle.named_places.specs.Names.{Held}

@@ -1,5 +1,4 @@
 use Rattle.std.proofs.Common.{◌≡◌, ◌-◌, ◌/◌, true, false, length, sym, refl, ◌∙◌, arith, rules}
-use borrow.Author.Tests.{not-true, not-false}
 use Rattle.schema_tables.specs.Tests.{link_fits}
 use Rattle.schema_nodes.proofs.TestLaws.{below_none, below_next, below_fails, links_empty, links_all}
 use Rattle.schema_nodes.proofs.refusal.links_fit.Goals as goal

@@ -1,5 +1,4 @@
-use borrow.Author.Tests.{not-true, not-false}
-use Rattle.std.proofs.Common.{sym, ◌∙◌, rules}
+use Rattle.std.proofs.Common.{sym, ◌∙◌}
 use Rattle.schema_nodes.proofs.TestLaws.{no_kinds, no_links, too_deep, all-fits}
 use Rattle.schema_nodes.proofs.refusal.refusal.Goals as goal
 

@@ -1,19 +1,13 @@
-use mathlib.Core.Path.{◌≡◌, refl, sym, ap, ◌∙◌}
-use mathlib.Core.List.{[]}
-use Prim.Native.Nat.{◌+◌, ◌-◌, ◌*◌, ◌≤◌}
+use mathlib.Core.Path.{refl}
+use Prim.Native.Nat.{◌-◌}
 use native.Mathlib.Omega.{arith}
-use lib.ListN.{length}
 use Rattle.atn.specs.Reading.{or}
-use Rattle.atn.specs.Messages.{no_reader}
 use Rattle.schema_tables.specs.Nodes.{format_at}
-use Rattle.capped_records.proofs.PlaceLaws.{one-length}
-use Rattle.schema_leaves.proofs.CameLaws.{came_length}
-use Rattle.schema_parts.proofs.MemberLaws.{flag_may, flag_left, flag_few}
+use Rattle.schema_parts.proofs.MemberLaws.{flag_may, flag_left}
 use Rattle.schema_walk.proofs.NodeLaws.{leaf_node, sequence-node, choice_node, alone-node, extension-node, headed-node, same-node, unread-node, unlisted-node, unknown_node, too_deep, six_or_seven, thirteen, its_kind, sequence-nodes, choice_nodes, alone-nodes}
-use Rattle.schema_walk.proofs.SequenceLaws.{absent, present, not_there, not-read, required, Upto, upto_none, upto_flag, upto_stops, upto_more, upto_all, bits-short, bits-ahead, bits-open, bits-then}
-use Rattle.schema_walk.proofs.ChoiceLaws.{index_short, index-open, index_in, index_out, bit-short, bit-open, bit-clear, bit-set, told-open, headed}
+use Rattle.schema_walk.proofs.SequenceLaws.{absent, present, not_there, not-read, required, upto_none, upto_flag, upto_stops, upto_more, upto_all, bits-short, bits-then}
+use Rattle.schema_walk.proofs.ChoiceLaws.{index_short, index_in, index_out, bit-short, bit-clear, bit-set, headed}
 use borrow.Author.Rules.{rules}
-use Prim.Native.Nat.{ℕ, ◌<◌}
 use Rattle.schema_walk.proofs.walk.+read_choice_read_extension_read_member_read_members_read_node_read_sequence.Goals as goal
 
 pub read_choice-returns-then-c-ne0 : goal.read_choice-returns-then-c-ne0

@@ -2,12 +2,6 @@ use mathlib.Core.Path.{refl, sym, ◌∙◌}
 use native.Mathlib.Omega.{arith}
 use borrow.Author.Rules.{rules}
 use Rattle.write_leaves.proofs.IndexLaws.{indexes_still, indexes_end, indexes_high, indexes_other, indexes_got, inks_width, index-fits}
-use Rattle.write_leaves.proofs.index.write_index.Reads as reads
-use Rattle.write_leaves.proofs.index.write_index.Lts as lts
-use Rattle.pens.proofs.ink.Reads as ink-reads
-use Rattle.pens.proofs.is_record.Reads as is-record-reads
-use Rattle.per.proofs.width.bits_for.Reads as bits-for-reads
-use Rattle.write_leaves.proofs.index.none.Reads as none_reads
 use Rattle.write_leaves.proofs.index.write_index.Goals as goal
 
 pub returns-then-p : goal.returns-then-p

@@ -1,15 +1,6 @@
 use borrow.Author.Rules.{rules}
 use Rattle.x691.specs.Bits.{bit_of}
 use Rattle.write_leaves.proofs.LeafLaws.{sure_number, sure_name, sure_reason, sure-text, sure_span, sure_any, part_as, number_leaf, name_leaf, reason_leaf, text_leaf, span_leaf, any_leaf, null_leaf, no_leaf, null_part, no_part, below-eight}
-use Rattle.write_leaves.proofs.leaf.write_leaf.Reads as reads
-use Rattle.write_leaves.proofs.leaf.write_leaf.Lts as lts
-use Rattle.pens.proofs.refuse.Reads as refuse-reads
-use Rattle.write_numbers.proofs.write_name.Reads as write-name-reads
-use Rattle.write_numbers.proofs.write_number.Reads as write-number-reads
-use Rattle.write_numbers.proofs.write_reason.Reads as write-reason-reads
-use Rattle.write_spans.proofs.write_any_span.Reads as write-any-span-reads
-use Rattle.write_spans.proofs.write_span.Reads as write-span-reads
-use Rattle.write_leaves.proofs.letters.write_letters.Reads as write-letters-reads
 use Rattle.write_leaves.proofs.leaf.write_leaf.Goals as goal
 
 pub write_number-requires : goal.write_number-requires

@@ -1,13 +1,13 @@
 use mathlib.Core.Path.{refl, sym, ◌∙◌}
 use mathlib.Core.List.{[]}
-use Prim.Native.Nat.{ℕ, ◌+◌, ◌-◌, ◌*◌, ◌<◌}
+use Prim.Native.Nat.{◌+◌, ◌-◌}
 use native.Mathlib.Omega.{arith}
 use Rattle.x691.specs.Bits.{bit_of}
 use Rattle.node_tables.specs.Nodes.{format_at, members_from}
 use Rattle.node_tables.specs.Sure.{sure_at}
 use Rattle.pens.proofs.PartLaws.{short-length, long-length, inner_refused, inner_long, inner_goes}
 use Rattle.pens.proofs.MemberLaws.{seq_part}
-use Rattle.pens.proofs.ListLaws.{repeats_still, many_part, many_few, many_refused}
+use Rattle.pens.proofs.ListLaws.{many_part, many_few, many_refused}
 use Rattle.write_leaves.proofs.LeafLaws.{part_as, no_part}
 use Rattle.write_nodes.proofs.NodeLaws.{format_none, format_step, sure_step, members_step, sure-members, leaf_sure, above_sure, seq_sure, loose_sure, many_sure, inner_sure, seq_format, loose_format, many_format, inner_format, hollow_part, loose_as_seq, above, few-flags}
 use Rattle.write_nodes.proofs.KnotLaws.{skips_as, size_fits, put-size, members_as, no_members, noted-tag, repeat_none, repeat_end, repeat_more}
@@ -123,7 +123,7 @@ write_node-returns-then-kind-eq17 t c =
 
 pub write_node-lead-l-requires : goal.write_node-lead-l-requires
 write_node-lead-l-requires t c =
-    (c.requires.0.list.records, c.requires.0.list.few, c.requires.0.down-some, c.requires.0.down-few, c.requires.0.up-some, c.requires.0.up-few, (above c.if-kind-lt8.false c.if-kind-gt19.false c.if-kind-eq12.false c.if-kind-eq13.false c.if-kind-eq16.false c.if-kind-eq17.false), above_sure (λ j. format_at (c.args.depth - 1) c.args.nodes.now c.args.down.now c.args.up.now j) (λ j. sure_at (c.args.depth - 1) c.args.nodes.now c.args.down.now c.args.up.now j) c.args.nodes.now _ _ _ _ _ _ (above c.if-kind-lt8.false c.if-kind-gt19.false c.if-kind-eq12.false c.if-kind-eq13.false c.if-kind-eq16.false c.if-kind-eq17.false) (sure_step c.args.nodes.now c.args.down.now c.args.up.now c.args.depth c.args.k c.node_at-n.result c.if-depth-eq0.false c.node_at-n.ensures c.requires.2))
+    (c.requires.0.list.records, c.requires.0.list.few, c.requires.0.down_some, c.requires.0.down_few, c.requires.0.up_some, c.requires.0.up_few, (above c.if-kind-lt8.false c.if-kind-gt19.false c.if-kind-eq12.false c.if-kind-eq13.false c.if-kind-eq16.false c.if-kind-eq17.false), above_sure (λ j. format_at (c.args.depth - 1) c.args.nodes.now c.args.down.now c.args.up.now j) (λ j. sure_at (c.args.depth - 1) c.args.nodes.now c.args.down.now c.args.up.now j) c.args.nodes.now _ _ _ _ _ _ (above c.if-kind-lt8.false c.if-kind-gt19.false c.if-kind-eq12.false c.if-kind-eq13.false c.if-kind-eq16.false c.if-kind-eq17.false) (sure_step c.args.nodes.now c.args.down.now c.args.up.now c.args.depth c.args.k c.node_at-n.result c.if-depth-eq0.false c.node_at-n.ensures c.requires.2))
 
 pub write_node-write_node-requires : goal.write_node-write_node-requires
 write_node-write_node-requires t c =

@@ -2,12 +2,6 @@ use mathlib.Core.Path.{refl}
 use native.Mathlib.Omega.{arith}
 use borrow.Author.Rules.{rules}
 use Rattle.write_steps.proofs.LeadLaws.{last_two, keeps-noted, keeps_placed, keeps_choice, keeps-lent, leads_noted, leads_placed, leads_element, leads_ext, leads_choice, leads_lent, leads_through, lent-down, lent-up}
-use Rattle.write_steps.proofs.lead.lead.Reads as reads
-use Rattle.write_steps.proofs.lead.lead.Lts as lts
-use Rattle.pens.proofs.ink.Reads as ink-reads
-use Rattle.pens.proofs.take.Reads as take-reads
-use Rattle.write_leaves.proofs.index.write_index.Reads as write-index-reads
-use Rattle.write_steps.proofs.lead.lent.Reads as Lent-reads
 use Rattle.write_steps.proofs.lead.lead.Goals as goal
 
 pub take-q-requires : goal.take-q-requires

@@ -2,10 +2,6 @@ use mathlib.Core.Path.{refl}
 use native.Mathlib.Omega.{arith}
 use borrow.Author.Rules.{rules}
 use Rattle.write_steps.proofs.LeadLaws.{lent_there, lent_none}
-use Rattle.write_steps.proofs.lead.lent.Reads as reads
-use Rattle.write_steps.proofs.lead.lent.Lts as lts
-use Rattle.pens.proofs.refuse.Reads as refuse-reads
-use Rattle.write_leaves.proofs.index.write_index.Reads as write-index-reads
 use Rattle.write_steps.proofs.lead.lent.Goals as goal
 
 pub write_index-i-requires : goal.write_index-i-requires

@@ -2,12 +2,6 @@ use mathlib.Core.Path.{sym, ◌∙◌}
 use native.Mathlib.Omega.{arith}
 use borrow.Author.Rules.{rules}
 use Rattle.write_steps.proofs.MeetLaws.{meets_tagged, meets_untagged, meets_never, meets-noted, meets_unnoted, meets-unread, meets_always, flag_next}
-use Rattle.write_steps.proofs.meet.meet.Reads as reads
-use Rattle.write_steps.proofs.meet.meet.Lts as lts
-use Rattle.pens.proofs.is_record.Reads as is-record-reads
-use Rattle.pens.proofs.is_tagged.Reads as is-tagged-reads
-use Rattle.pens.proofs.places.put_at.Reads as put-at-reads
-use Rattle.write_steps.proofs.meet.absent.Reads as absent-reads
 use Rattle.write_steps.proofs.meet.meet.Goals as goal
 
 pub is_tagged-requires : goal.is_tagged-requires
