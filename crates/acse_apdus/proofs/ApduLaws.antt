@@ -101,7 +101,7 @@ body_reply s c o i r l z y t =
     rw (going c (λ p. Index s o i c.end p) z, pdu_body i (bit_of s) c.end c.at l, ← (glue-glue [] Q c.marks 0 (softly 7 true a)), or_nil c.marks)
     (soft_reply a Q (Q ++ body_recs r) c.marks r.c h)
 
-module _ {s : List ℕ} {g : Got} (x : Pulls s (start s) 1 g) where
+module _ {s : List ℕ} {g : Got ℕ} (x : Pulls s (start s) 1 g) where
   begins : Inside s (start s)
   begins = (omega arith, omega arith)
 
@@ -120,7 +120,7 @@ module _ {s : List ℕ} {g : Got} (x : Pulls s (start s) 1 g) where
     hears_extended n =
         record { is = behind-extension ∙ rw (going g.c (λ p. Header s g.v g.c.end p) z, eq-eqb g.c.why 0 z) (extension-reply s g.v g.c.end g.c.at g.c.marks n) }
 
-    module _ (o : g.v ≡ 0) {h : Got} (y : Pulls s g.c 3 h) where
+    module _ (o : g.v ≡ 0) {h : Got ℕ} (y : Pulls s g.c 3 h) where
       inside : Inside s g.c
       inside = (pulled_inside 1 g (Header s) begins (x.gave begins)).0
 

@@ -41,7 +41,7 @@ module _ (fs : Flds) (b : ℕ → ℕ) (e at : ℕ) (one : flags fs ≡ 1) (plai
 abbrev Or : ℕ → ℕ → ℕ → Fmt → List ℕ → ℕ → ℕ → ℕ → Ans
 Or t v y f s w u q = fork w (ok q (rec t 0 v y q ∷ []) 0) (Read f s u q)
 
-module _ (t v y : ℕ) {f : Fmt} {s : List ℕ} {c d : Cursor} {R : List Rec} {g : Got} (p : Pulls s c 1 g) where
+module _ (t v y : ℕ) {f : Fmt} {s : List ℕ} {c d : Cursor} {R : List Rec} {g : Got ℕ} (p : Pulls s c 1 g) where
   or-note : Grows (Or t v y f s g.v) s g.c d R → Keeps (seq (or_note t v y f end)) s c d R
   unfolding read_fields flags unread_marks then glue or
   or-note h =
@@ -54,7 +54,7 @@ module _ (t v y : ℕ) {f : Fmt} {s : List ℕ} {c d : Cursor} {R : List Rec} {g
   pub keeps_given : (g.v ≡ 0 → ⊥) → Keeps f s g.c d R → Keeps (seq (or_note t v y f end)) s c d R
   keeps_given n h = or-note (grows_same (Read f s) (Or t v y f s g.v) (λ i z. sym (fork-set g.v _ _ n)) h.grows)
 
-pub keeps-absent : (t v y : ℕ) {f : Fmt} {s : List ℕ} {c : Cursor} {g : Got} → Pulls s c 1 g → g.v ≡ 0 → Keeps (seq (or_note t v y f end)) s c g.c (cond (eqb g.c.why 0) (rec t 0 v y g.c.at ∷ []) [])
+pub keeps-absent : (t v y : ℕ) {f : Fmt} {s : List ℕ} {c : Cursor} {g : Got ℕ} → Pulls s c 1 g → g.v ≡ 0 → Keeps (seq (or_note t v y f end)) s c g.c (cond (eqb g.c.why 0) (rec t 0 v y g.c.at ∷ []) [])
 unfolding fork
 keeps-absent t v y {g = g} p z = or-note t v y p (rw z (grows_here (λ q. rec t 0 v y q ∷ []) 0 (marked-nil g.c)))
 
@@ -63,7 +63,7 @@ keeps-absent t v y {g = g} p z = or-note t v y p (rw z (grows_here (λ q. rec t 
 abbrev And : Fmt → Fmt → List ℕ → ℕ → ℕ → ℕ → Ans
 And f k s w u q = then (Read f s u q) (λ r. fork w (ok r [] 0) (Read k s u r))
 
-module _ {f k : Fmt} {s : List ℕ} {c : Cursor} {g : Got} (p : Pulls s c 1 g) where
+module _ {f k : Fmt} {s : List ℕ} {c : Cursor} {g : Got ℕ} (p : Pulls s c 1 g) where
   and_may : {d : Cursor} {R : List Rec} → Grows (And f k s g.v) s g.c d R → Keeps (seq (f ⨾ k ⨾? end)) s c d R
   unfolding read_fields flags unread_marks
   and_may h =

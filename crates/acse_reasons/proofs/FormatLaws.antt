@@ -26,7 +26,7 @@ fork-set (suc v) x y n = refl
 abbrev Forks : Fmt → Fmt → List ℕ → ℕ → ℕ → ℕ → Ans
 Forks f k s v u q = fork v (Read f s u q) (then (ok q [] (mark 2)) λ r. Read k s u r)
 
-module _ {f k : Fmt} {s : List ℕ} {c d : Cursor} {R : List Rec} {g : Got} (p : Pulls s c 1 g) where
+module _ {f k : Fmt} {s : List ℕ} {c d : Cursor} {R : List Rec} {g : Got ℕ} (p : Pulls s c 1 g) where
   pub keeps-root : g.v ≡ 0 → Keeps f s g.c d R → Keeps (ext f k) s c d R
   unfolding read fork
   keeps-root z h = record { grows = grows_pull 1 g (Forks f k s) p (rw z h.grows) }
@@ -37,7 +37,7 @@ module _ {f k : Fmt} {s : List ℕ} {c d : Cursor} {R : List Rec} {g : Got} (p :
       let past : ℕ → ℕ → Ans = λ u q. then (ok q [] (mark 2)) λ r. Read k s u r in
       record { grows = grows_pull 1 g (Forks f k s) p (grows_same past (Forks f k s g.v) (λ i z. sym (fork-set g.v _ _ n)) h) }
 
-module _ {f : Fmt} {s : List ℕ} {c d : Cursor} {g : Got} (p : Pulls s c 1 g) (n : g.v ≡ 0 → ⊥) (q : d ≡ marked g.c 2) where
+module _ {f : Fmt} {s : List ℕ} {c d : Cursor} {g : Got ℕ} (p : Pulls s c 1 g) (n : g.v ≡ 0 → ⊥) (q : d ≡ marked g.c 2) where
   -- nothing is told of it
   pub keeps-unread : Keeps (ext f null) s c d []
   unfolding read then glue mark or
@@ -53,7 +53,7 @@ from_zero : (hi : ℕ) → hi < 2 ^ 64 → extent 0 hi ≡ hi
 unfolding extent
 from_zero hi h = omega arith
 
-pub keeps-number : (t hi : ℕ) {s : List ℕ} {c d : Cursor} {g : Got} → hi < 2 ^ 64 → g.v < 2 ^ 64 → Pulls s c (width hi) g → d ≡ marked g.c (over hi g.v)
+pub keeps-number : (t hi : ℕ) {s : List ℕ} {c d : Cursor} {g : Got ℕ} → hi < 2 ^ 64 → g.v < 2 ^ 64 → Pulls s c (width hi) g → d ≡ marked g.c (over hi g.v)
     → Keeps (num t 0 hi) s c d (cond (eqb d.why 0) (rec t 0 g.v 0 c.at ∷ []) [])
 unfolding read word
 keeps-number t hi {s} {c} {d} {g} h l p q =
@@ -64,7 +64,7 @@ keeps-number t hi {s} {c} {d} {g} h l p q =
     let r : Keeps (num t 0 hi) s c d (cond (eqb d.why 0) (rec t 0 (word (0 + g.v)) 0 c.at ∷ []) []) = record { grows = grows_from (width (extent 0 hi)) g (λ a v u r. ok r (rec t 0 (word (0 + v)) 0 a ∷ []) (over (extent 0 hi) v)) p' (grows_ok _ _ q') } in
     rw w at r
 
-pub keeps-listed : (t hi : ℕ) (xs : List ℕ) {s : List ℕ} {c d : Cursor} {g : Got} → Pulls s c (width hi) g → d ≡ marked g.c (unless (leb g.v hi && member g.v xs) 1)
+pub keeps-listed : (t hi : ℕ) (xs : List ℕ) {s : List ℕ} {c d : Cursor} {g : Got ℕ} → Pulls s c (width hi) g → d ≡ marked g.c (unless (leb g.v hi && member g.v xs) 1)
     → Keeps (listed t hi xs) s c d (cond (eqb d.why 0) (rec t 0 g.v 0 c.at ∷ []) [])
 unfolding read
 keeps-listed t hi xs {g = g} p q = record { grows = grows_from (width hi) g (λ a v u r. ok r (rec t 0 v 0 a ∷ []) (unless (leb v hi && member v xs) 1)) p (grows_ok _ _ q) }

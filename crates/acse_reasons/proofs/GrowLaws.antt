@@ -89,7 +89,7 @@ grows_mark {s} {c} {d} m q = go (eqb d.why 0) (grows_ok [] m q)
 
 ---------------------------------------------------------------- behind a number
 
-module _ {s : List ℕ} {c : Cursor} (n : ℕ) (g : Got) (k : ℕ → ℕ → ℕ → Ans) where
+module _ {s : List ℕ} {c : Cursor} (n : ℕ) (g : Got ℕ) (k : ℕ → ℕ → ℕ → Ans) where
   pub pulled_step : (Q : List Rec) → Pulled s c n g → then (so_far c Q) (λ p. Behind s n k c.end p) ≡ then (so_far g.c Q) (λ p. k g.v g.c.end p)
   unfolding so_far then glue
   pulled_step Q (stuck h q) = rw (q, ne_eqb c.why 0 h)
@@ -115,6 +115,6 @@ module _ {s : List ℕ} {c : Cursor} (n : ℕ) (g : Got) (k : ℕ → ℕ → �
       }
 
 -- the same where what follows also knows the place at which the bits started
-pub grows_from : {s : List ℕ} {c d : Cursor} {R : List Rec} (n : ℕ) (g : Got) (k : ℕ → ℕ → ℕ → ℕ → Ans) → Pulls s c n g → Grows (λ u q. k c.at g.v u q) s g.c d R
+pub grows_from : {s : List ℕ} {c d : Cursor} {R : List Rec} (n : ℕ) (g : Got ℕ) (k : ℕ → ℕ → ℕ → ℕ → Ans) → Pulls s c n g → Grows (λ u q. k c.at g.v u q) s g.c d R
     → Grows (λ u p. pull (bit_of s) u p n (λ v. k p v u (p + n))) s c d R
 grows_from {s} {c} n g k x y = grows_same (Behind s n (k c.at)) (λ u p. pull (bit_of s) u p n (λ v. k p v u (p + n))) (λ i z. refl) (grows_pull n g (k c.at) x y)

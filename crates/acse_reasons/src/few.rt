@@ -34,7 +34,7 @@ fn number(s: &[u8], at: usize, n: usize) -> u64
 }
 
 // The next n bits as a number, as `cursor::place::bits` gives them.
-pub fn few(s: &[u8], c: Cursor, n: usize) -> Got
+pub fn few(s: &[u8], c: Cursor, n: usize) -> Got<u64>
     requires { n ≤ 8 }
     ensures { Pulls s.now c n result }
 {

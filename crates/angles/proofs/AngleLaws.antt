@@ -35,9 +35,9 @@ module _ (t k j : ℕ) where
       ∥ none_left
 
 -- a form by its index; where the reading went on, each number stands behind the bits of those before
-module _ {k j : ℕ} {s : List ℕ} {c : Cursor} (g : Got) (p : Pulls s c 2 g) where
+module _ {k j : ℕ} {s : List ℕ} {c : Cursor} (g : Got ℕ) (p : Pulls s c 2 g) where
   module _ (fits : c.end < 2 ^ 64) where
-    pub form-zero : g.v ≡ 0 → (a : Got) → Ranged k s g.c a → Forms k j s c (record { form = record { form = 0; first = a.v; second = 0; third = 0 }; c = a.c })
+    pub form-zero : g.v ≡ 0 → (a : Got ℕ) → Ranged k s g.c a → Forms k j s c (record { form = record { form = 0; first = a.v; second = 0; third = 0 }; c = a.c })
     unfolding read_choice width width_in encoding.highest count
     form-zero z a h =
         let index = pull_along p in
@@ -47,7 +47,7 @@ module _ {k j : ℕ} {s : List ℕ} {c : Cursor} (g : Got) (p : Pulls s c 2 g) w
           ends = along_place (number_along k index h) fits;
         }
 
-    pub form-one : g.v ≡ 1 → (a : Got) → Ranged j s g.c a → (b : Got) → Ranged rows.hundredths s a.c b → Forms k j s c (record { form = record { form = 1; first = a.v; second = b.v; third = 0 }; c = b.c })
+    pub form-one : g.v ≡ 1 → (a : Got ℕ) → Ranged j s g.c a → (b : Got ℕ) → Ranged rows.hundredths s a.c b → Forms k j s c (record { form = record { form = 1; first = a.v; second = b.v; third = 0 }; c = b.c })
     unfolding read_choice flags all_read width width_in encoding.highest count
     form-one z a h b m =
         let index = pull_along p in
@@ -59,7 +59,7 @@ module _ {k j : ℕ} {s : List ℕ} {c : Cursor} (g : Got) (p : Pulls s c 2 g) w
           ends = along_place (number_along 9 degrees m) fits;
         }
 
-    pub form_two : g.v ≡ 2 → (a : Got) → Ranged j s g.c a → (b : Got) → Ranged rows.minutes s a.c b → (e : Got) → Ranged rows.minutes s b.c e
+    pub form_two : g.v ≡ 2 → (a : Got ℕ) → Ranged j s g.c a → (b : Got ℕ) → Ranged rows.minutes s a.c b → (e : Got ℕ) → Ranged rows.minutes s b.c e
         → Forms k j s c (record { form = record { form = 2; first = a.v; second = b.v; third = e.v }; c = e.c })
     unfolding read_choice flags all_read width width_in encoding.highest count
     form_two z a h b m e l =
@@ -89,7 +89,7 @@ module _ {k j : ℕ} {s : List ℕ} {c : Cursor} (g : Got) (p : Pulls s c 2 g) w
       go t (suc (suc (suc v))) x u r y₀ y₁ y₂ = refl
 
 -- the form, and the side behind it
-pub form-side : {k j : ℕ} {s : List ℕ} {c : Cursor} {f : FormAt} {g : Got} → Forms k j s c f → Ranged rows.side s f.c g → Angles k j s c (record { angle = record { at = c.at; form = f.form; side = g.v }; c = g.c })
+pub form-side : {k j : ℕ} {s : List ℕ} {c : Cursor} {f : FormAt} {g : Got ℕ} → Forms k j s c f → Ranged rows.side s f.c g → Angles k j s c (record { angle = record { at = c.at; form = f.form; side = g.v }; c = g.c })
 unfolding flags all_read angle_recs
 form-side {k} {j} {s} {c} {f} {g} h r =
     record {
@@ -100,7 +100,7 @@ form-side {k} {j} {s} {c} {f} {g} h r =
     }
 
 -- two presence bits, and an angle for each
-pub pair_reads : {f h : Fmt} {s : List ℕ} {c d e : Cursor} {T U : ℕ → List Rec} (g : Got) → Opens s c 2 g → Maybe (g.v / 2 % 2) f s g.c d T → Maybe (g.v % 2) h s d e U
+pub pair_reads : {f h : Fmt} {s : List ℕ} {c d e : Cursor} {T U : ℕ → List Rec} (g : Got ℕ) → Opens s c 2 g → Maybe (g.v / 2 % 2) f s g.c d T → Maybe (g.v % 2) h s d e U
     → Takes (noted 34 0 0 (seq (f ⨾? h ⨾? end))) s c e (λ n. rec 34 n 0 0 c.at ∷ (T n ++ U n))
 unfolding flags all_read
 pair_reads {f} {h} {s} {c} {d} {e} g o x y =

@@ -84,11 +84,11 @@ extension-short s e v h z u = ap (λ (a : Ans). glue [] 2 (glue (rec tag.pdu 0 0
 abbrev start : ℕ → Cursor
 start e = record { at = 1; end = e; why = 0; marks = 2 }
 
-abbrev brief : Got → Brief
+abbrev brief : Got ℕ → Brief
 brief g = record { why = g.c.why; index = 0; extended = 1; tag = tag.extension_index; value = g.v; second = 0; place = 1; reach = g.c.at; marks = g.c.marks }
 
 -- in either form, by the cursor behind it
-pub extension-read : (s : List ℕ) (e : ℕ) {g : Got} → 1 ≤ e → e ≡ length s * 8 → Smalls s (start e) g → Came (Extension s e) (behind_direction (brief g)) (brief g)
+pub extension-read : (s : List ℕ) (e : ℕ) {g : Got ℕ} → 1 ≤ e → e ≡ length s * 8 → Smalls s (start e) g → Came (Extension s e) (behind_direction (brief g)) (brief g)
 unfolding read then glue or mark marked stopped
 extension-read s e {g} h q x = go (((takes_small {c = start e} 2 tag.extension_index refl x).took (0, 0)).led (h, omega arith))
   where

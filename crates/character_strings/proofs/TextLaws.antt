@@ -32,7 +32,7 @@ use Rattle.cursor.proofs.Laws.{reads_then, reads_same, reads_ok, pull-then, mark
 ---------------------------------------------------------------- a size
 
 -- of eight bits at most, what was read is its own remainder
-clipped : {s : List ℕ} {c : Cursor} {n : ℕ} {g : Got} → n ≤ 8 → Pulls s c n g → Pulls s c n (record { v = g.v % 256; c = g.c })
+clipped : {s : List ℕ} {c : Cursor} {n : ℕ} {g : Got ℕ} → n ≤ 8 → Pulls s c n g → Pulls s c n (record { v = g.v % 256; c = g.c })
 clipped {s} {c} {n} {g} h p = record { gave = λ i. go (p.gave i) }
   where
     go : Pulled s c n g → Pulled s c n (record { v = g.v % 256; c = g.c })
@@ -40,7 +40,7 @@ clipped {s} {c} {n} {g} h p = record { gave = λ i. go (p.gave i) }
     go (short z l q) = short z l q
     go (got z l v q) = got z l (mod-eq_of_lt (rw v (uint-below-wide 8 s c.at n h)) ∙ v) q
 
-module _ {s : List ℕ} {c : Cursor} (g : Got) where
+module _ {s : List ℕ} {c : Cursor} (g : Got ℕ) where
   sized-then : {d f : Cursor} {R : List Rec} (lo hi : ℕ) (K : ℕ → ℕ → ℕ → Ans) → Pulls s c (width (hi - lo)) g → d ≡ marked g.c (over hi (lo + g.v)) → Reads (λ e p. K (lo + g.v) e p) s d f R
       → Reads (λ e p. sized (bit_of s) e p lo hi (λ n q. K n e q)) s c f R
   unfolding sized
@@ -62,10 +62,10 @@ module _ {r : Range} (z : SizeRow r) where
   unfolding extent
   narrow = width-le 8 _ (omega (arith, z.some, z.ordered, z.most))
 
-  pulled : {s : List ℕ} {c : Cursor} (g : Got) → Pulls s c (width_of r) g → Pulls s c (width (highest r.row - lowest r.row)) (record { v = g.v % 256; c = g.c })
+  pulled : {s : List ℕ} {c : Cursor} (g : Got ℕ) → Pulls s c (width_of r) g → Pulls s c (width (highest r.row - lowest r.row)) (record { v = g.v % 256; c = g.c })
   pulled g p = rw plain at (clipped narrow p)
 
-  pub size_in : {s : List ℕ} {c : Cursor} {v : ℕ} (g : Got) → Pulls s c (width_of r) g → v ≡ r.lo + g.v % 256 → v ≤ r.hi → Sized r.row s c (record { v = v; c = g.c })
+  pub size_in : {s : List ℕ} {c : Cursor} {v : ℕ} (g : Got ℕ) → Pulls s c (width_of r) g → v ≡ r.lo + g.v % 256 → v ≤ r.hi → Sized r.row s c (record { v = v; c = g.c })
   unfolding over unless
   size_in {v = v} g p q l =
       let w : v ≡ lowest r.row + g.v % 256 = rw ends.0 at q in
@@ -76,7 +76,7 @@ module _ {r : Range} (z : SizeRow r) where
         few = omega (arith, z.ordered, z.most);
       }
 
-  pub size-over : {s : List ℕ} {c d : Cursor} {v : ℕ} (g : Got) → Pulls s c (width_of r) g → v ≡ r.lo + g.v % 256 → r.hi < v → d ≡ marked g.c 1 → Sized r.row s c (record { v = v; c = d })
+  pub size-over : {s : List ℕ} {c d : Cursor} {v : ℕ} (g : Got ℕ) → Pulls s c (width_of r) g → v ≡ r.lo + g.v % 256 → r.hi < v → d ≡ marked g.c 1 → Sized r.row s c (record { v = v; c = d })
   unfolding over unless mark
   size-over {v = v} g p q l e =
       let w : v ≡ lowest r.row + g.v % 256 = rw ends.0 at q in
@@ -177,7 +177,7 @@ module _ {s : List ℕ} {c : Cursor} {n : ℕ} where
         held = in_frame-none;
       }
 
-pub text_of : {k : ℕ} {s : List ℕ} {c : Cursor} {g : Got} {r : TextAt} → Sized k s c g → Passed g.v s g.c r → Texts k s c (record { text = record { from = c.at; at = r.text.at; len = r.text.len }; c = r.c })
+pub text_of : {k : ℕ} {s : List ℕ} {c : Cursor} {g : Got ℕ} {r : TextAt} → Sized k s c g → Passed g.v s g.c r → Texts k s c (record { text = record { from = c.at; at = r.text.at; len = r.text.len }; c = r.c })
 unfolding read width width_in text_recs
 text_of {k} {s} {c} {g} {r} z p =
     record {
@@ -259,15 +259,15 @@ module _ {s : List ℕ} {c : Cursor} where
   unfolding letters
   digits-none = record { digits = reads_ok [] 0 (marked-nil c) }
 
-  digit_of : {d : Cursor} (g : Got) → Pulls s c 4 g → d ≡ marked g.c (unless (ltb g.v 11) 1) → Digits 1 s c d
+  digit_of : {d : Cursor} (g : Got ℕ) → Pulls s c 4 g → d ≡ marked g.c (unless (ltb g.v 11) 1) → Digits 1 s c d
   unfolding letters
   digit_of {d} g p q = record { digits = pull-then 4 g (λ v e z. then (ok z [] (unless (ltb v 11) 1)) λ y. ok y [] 0) p (reads_then _ _ (reads_ok [] _ q) (reads_ok [] 0 (marked-nil d))) }
 
-  pub digit_in : (g : Got) → Pulls s c 4 g → g.v < 11 → Digits 1 s c g.c
+  pub digit_in : (g : Got ℕ) → Pulls s c 4 g → g.v < 11 → Digits 1 s c g.c
   unfolding unless
   digit_in g p l = digit_of g p (marked-nil g.c ∙ rw (lt-ltb g.v 11 l))
 
-  pub digit-over : {d : Cursor} (g : Got) → Pulls s c 4 g → 11 ≤ g.v → d ≡ marked g.c 1 → Digits 1 s c d
+  pub digit-over : {d : Cursor} (g : Got ℕ) → Pulls s c 4 g → 11 ≤ g.v → d ≡ marked g.c 1 → Digits 1 s c d
   unfolding unless mark
   digit-over g p l q = digit_of g p (q ∙ rw (le-ltb g.v 11 l))
 

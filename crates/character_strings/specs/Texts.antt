@@ -44,7 +44,7 @@ pub record Channel (s : List ℕ) (c : Cursor) (r : TextAt) : Type 0 where
   pub held : InFrame 4 s r.text
 
 -- what follows the size, for any reading that goes on from it
-pub record Sized (k : ℕ) (s : List ℕ) (c : Cursor) (g : Got) : Type 0 where
+pub record Sized (k : ℕ) (s : List ℕ) (c : Cursor) (g : Got ℕ) : Type 0 where
   pub size : (K : ℕ → ℕ → ℕ → Ans) {d : Cursor} {R : List Rec} → Reads (λ e p. K g.v e p) s g.c d R → Reads (λ e p. sized (bit_of s) e p (lowest k) (highest k) (λ n q. K n e q)) s c d R
   -- whatever was read
   pub least : lowest k ≤ g.v

@@ -40,7 +40,7 @@ pub fn ia5(s: &[u8], c: Cursor, range: Range) -> TextAt
 }
 
 // A size of the range. Above the range it is a size all the same, with mark 1.
-pub fn size(s: &[u8], c: Cursor, range: Range) -> Got
+pub fn size(s: &[u8], c: Cursor, range: Range) -> Got<u64>
     requires { SizeRow range }
     ensures { Sized range.row s.now c result }
 {

@@ -95,7 +95,7 @@ module _ (b : ℕ → ℕ) (e at lo hi : ℕ) where
           absurd (omega arith)
       by false q = pull_no b e at _ _ (leb-false _ e q) ∙ sym (pull_no b e at _ _ (leb-false _ e q)) ∙ h
 
-module _ {k : ℕ} {s : List ℕ} {c : Cursor} {g : Got} (z : Sized k s c g) where
+module _ {k : ℕ} {s : List ℕ} {c : Cursor} {g : Got ℕ} (z : Sized k s c g) where
   probed : Reads (λ e p. sized (bit_of s) e p (lowest k) (highest k) probe) s c g.c (rec 0 0 g.v 0 0 ∷ [])
   probed = z.size (λ n e q. probe n q) (reads_ok (rec 0 0 g.v 0 0 ∷ []) 0 (marked-nil g.c))
 
@@ -149,7 +149,7 @@ module _ (s : List ℕ) (K : ℕ → ℕ → ℕ → Ans) where
   unfolding count_then mark
   count_stages e at = refl
 
-module _ {s : List ℕ} {c : Cursor} (g : Got) (x : Pulls s c 1 g) where
+module _ {s : List ℕ} {c : Cursor} (g : Got ℕ) (x : Pulls s c 1 g) where
   in_window : Inside s c → Inside s g.c
   in_window i = pulled_inside s c 1 g i (x.gave i)
 
@@ -165,7 +165,7 @@ module _ {s : List ℕ} {c : Cursor} (g : Got) (x : Pulls s c 1 g) where
         inside = λ i. marked-inside s g.c d 2 q (in_window i);
       }
 
-  module _ (h : Got) (z : g.v ≡ 0) (y : Pulls s g.c 1 h) where
+  module _ (h : Got ℕ) (z : g.v ≡ 0) (y : Pulls s g.c 1 h) where
     in_root : Inside s c → Inside s h.c
     in_root i = pulled_inside s g.c 1 h (in_window i) (y.gave (in_window i))
 
@@ -176,7 +176,7 @@ module _ {s : List ℕ} {c : Cursor} (g : Got) (x : Pulls s c 1 g) where
     pub counts-absent : h.v ≡ 0 → Counts s c (record { v = 0; c = h.c })
     counts-absent n = record { then = λ K o. rooted K (runs_clear (λ e p. K 0 e p) _ h.v n o); few = omega arith; inside = in_root }
 
-    module _ (n : h.v ≡ 0 → ⊥) {m : Got} (t : Sized rows.clearances s h.c m) where
+    module _ (n : h.v ≡ 0 → ⊥) {m : Got ℕ} (t : Sized rows.clearances s h.c m) where
       counted : (v : ℕ) → v ≤ 2 → (Inside s h.c → h.c.why ≡ 0 → m.c.why ≡ 0 → v ≡ m.v) → Counts s c (record { v = v; c = m.c })
       unfolding lowest highest
       counted v l q =

@@ -15,7 +15,7 @@ count_then b e at k =
     fork x (pull b e (at + 1) 1 λ h. fork h (k 0 (at + 1 + 1)) (sized b e (at + 1 + 1) 1 2 k))
     (then (ok (at + 1) [] (mark 2)) λ p. k 0 p)
 
-pub record Counts (s : List ℕ) (c : Cursor) (g : Got) : Type 0 where
+pub record Counts (s : List ℕ) (c : Cursor) (g : Got ℕ) : Type 0 where
   pub then : (K : ℕ → ℕ → ℕ → Ans) {b n : ℕ} {w w' : List ℕ} {r : At} → Runs b (λ e p. K g.v e p) s g.c n w w' r → Runs b (λ e p. count_then (bit_of s) e p (λ m q. K m e q)) s c n w w' r
   pub few : g.v ≤ 2
   pub inside : Inside s c → Inside s g.c

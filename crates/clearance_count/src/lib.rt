@@ -8,7 +8,7 @@ use cursor::place::{Cursor, Got, bits, mark};
 use field_ranges::table::CLEARANCES;
 
 // The number of the clearances, none behind a set extension bit (mark 2) and none where they are absent.
-pub fn read_count(s: &[u8], c: Cursor) -> Got
+pub fn read_count(s: &[u8], c: Cursor) -> Got<u64>
     ensures { Counts s.now c result }
 {
     let extension = bits(s, c, 1);

@@ -77,7 +77,7 @@ clearance_loose i b e at = refl
 ---------------------------------------------------------------- the bits that are left
 
 module _ {s : List ℕ} {c : Cursor} where
-  pub rest-bits : (g : Got) → Pulls s c (c.end - c.at) g → Rest s c g.v
+  pub rest-bits : (g : Got ℕ) → Pulls s c (c.end - c.at) g → Rest s c g.v
   rest-bits g x = record { bits = λ i z l. go i z (x.gave i) }
     where
       go : Inside s c → c.why ≡ 0 → Pulled s c (c.end - c.at) g → g.v ≡ uint (bit_of s) c.at (c.end - c.at)
@@ -199,7 +199,7 @@ module _ (s : List ℕ) (i : ℕ) where
       ∙ rw (last_mark at) (then_same _ _ _ (λ p. chosen_fields clearance_fields _ (0, i) (bit_of s) e at p (shown at)))
       ∙ sym (fetch_go (bit_of s) e at 9 _ _ h)
 
-module _ {s : List ℕ} {c : Cursor} (g : Got) (x : Pulls s c 9 g) (z : g.c.why ≡ 0) where
+module _ {s : List ℕ} {c : Cursor} (g : Got ℕ) (x : Pulls s c 9 g) (z : g.c.why ≡ 0) where
   room : Inside s c → c.at + 9 ≤ c.end
   room k = go (x.gave k)
     where
@@ -231,7 +231,7 @@ module _ {s : List ℕ} {c : Cursor} (g : Got) (x : Pulls s c 9 g) (z : g.c.why 
       })
 
 -- the window is too short for them
-pub clearance-short : {s : List ℕ} {c : Cursor} (g : Got) → Pulls s c 9 g → (g.c.why ≡ 0 → ⊥) → c.why ≡ 0 → Inside s c → c.end < c.at + 9
+pub clearance-short : {s : List ℕ} {c : Cursor} (g : Got ℕ) → Pulls s c 9 g → (g.c.why ≡ 0 → ⊥) → c.why ≡ 0 → Inside s c → c.end < c.at + 9
 clearance-short {s} {c} g x n z k = go (x.gave k)
   where
     go : Pulled s c 9 g → c.end < c.at + 9

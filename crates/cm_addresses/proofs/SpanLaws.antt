@@ -56,7 +56,7 @@ module _ {t k : ℕ} {s : List ℕ} {c d : Cursor} {T : ℕ → List Rec} where
           sym (sized_go (bit_of s) c.end c.at k k k (octets x) (omega arith) (omega arith) (rw w tt) (omega (arith, i.0)) ∙ ap (λ (q : ℕ). octets x k q) (omega arith))
 
 -- the row of the selectors' sizes
-pub span-selectors : {t : ℕ} {s : List ℕ} {c d : Cursor} {T : ℕ → List Rec} (g : Got) → Sized rows.selector_size s c g → Octets t c.at g.v s g.c d T → Takes (span t 8 10 11) s c d T
+pub span-selectors : {t : ℕ} {s : List ℕ} {c d : Cursor} {T : ℕ → List Rec} (g : Got ℕ) → Sized rows.selector_size s c g → Octets t c.at g.v s g.c d T → Takes (span t 8 10 11) s c d T
 unfolding read lowest highest
 span-selectors {t} {s} {c} g z h = record { took = λ x. reads_same (λ e p. sized (bit_of s) e p 10 11 (λ k q. octets x k e q)) (λ e p. read (span t 8 10 11) x (bit_of s) e p) refl (z.size (octets x) (h.took x)) }
   where

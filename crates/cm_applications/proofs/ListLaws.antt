@@ -27,7 +27,7 @@ use Rattle.told_fields.proofs.ListLaws.{in_place, times_at_end, times-stopped}
 ---------------------------------------------------------------- entries
 
 -- the record of an entry's place, and its two numbers
-module _ {t i m : ℕ} {s : List ℕ} {a : At} {x y : Got} {w w' : List ℕ} (qualifier : Ranged rows.ae_qualifier s a.c x) (version : Ranged rows.ap_version s x.c y)
+module _ {t i m : ℕ} {s : List ℕ} {a : At} {x y : Got ℕ} {w w' : List ℕ} (qualifier : Ranged rows.ae_qualifier s a.c x) (version : Ranged rows.ap_version s x.c y)
     (told : Told 3 w w' a.n m (rec t 0 i 0 a.c.at ∷ rec tag.ae_qualifier 0 x.v 0 a.c.at ∷ rec tag.ap_version 0 y.v 0 x.c.at ∷ [])) where
   abbrev entry_recs : ℕ → List Rec
   entry_recs n = rec t n i 0 a.c.at ∷ rec tag.ae_qualifier n x.v 0 a.c.at ∷ rec tag.ap_version n y.v 0 x.c.at ∷ []
@@ -60,11 +60,11 @@ same-list : (b : Bool) (t : ℕ) → many 1 256 (entry_of b t) ≡ list_of b t
 same-list true t = refl
 same-list false t = refl
 
-takes_many : {f : Fmt} {s : List ℕ} {c d : Cursor} {T : ℕ → List Rec} (g : Got) → Sized rows.applications s c g → Times f 1 g.v s g.c d T → Takes (many 1 256 f) s c d T
+takes_many : {f : Fmt} {s : List ℕ} {c d : Cursor} {T : ℕ → List Rec} (g : Got ℕ) → Sized rows.applications s c g → Times f 1 g.v s g.c d T → Takes (many 1 256 f) s c d T
 unfolding read lowest highest
 takes_many {f} {s} g z h = record { took = λ x. z.size (λ k e q. times (λ i p. read f (x.0, i) (bit_of s) e p) 1 k q) (h.took x) }
 
-pub does_list : (b : Bool) {t : ℕ} {s : List ℕ} {a z : At} {w w' : List ℕ} (g : Got) → Sized rows.applications s a.c g → Does (g.v * 3) 0 (Times (entry_of b t) 1 g.v s) (behind g a) z w w' → Does 1536 0 (Takes (list_of b t) s) a z w w'
+pub does_list : (b : Bool) {t : ℕ} {s : List ℕ} {a z : At} {w w' : List ℕ} (g : Got ℕ) → Sized rows.applications s a.c g → Does (g.v * 3) 0 (Times (entry_of b t) 1 g.v s) (behind g a) z w w' → Does 1536 0 (Takes (list_of b t) s) a z w w'
 does_list b {t} g z x =
     let few = z.few in
     let y = does_within 1536 (omega arith) x in

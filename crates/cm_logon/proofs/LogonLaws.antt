@@ -14,7 +14,7 @@ use Rattle.runs.specs.declared.At.{At}
 use Rattle.told_fields.specs.Does.{Does}
 use Rattle.told_fields.proofs.DoesLaws.{behind, since_opened, since_takes, since_maybe, shown, shown_last, from_must, from_may, from_last_may, does_opened}
 
-module _ {s : List ℕ} {at : At} (g : Got) where
+module _ {s : List ℕ} {at : At} (g : Got ℕ) where
   pub response_does : {a z : At} {w₀ w₁ w₂ : List ℕ} → Opens s at.c 2 g → Does 1536 0 (Maybe (g.v / 2 % 2) (addressed tag.air_initiated) s) (behind g at) a w₀ w₁
       → Does 1536 0 (Maybe (g.v % 2) (applications tag.ground_only_initiated) s) a z w₁ w₂ → Does 3072 0 (Takes cm_logon_response s) at z w₀ w₂
   unfolding flags all_read

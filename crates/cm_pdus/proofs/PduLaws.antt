@@ -46,7 +46,7 @@ module _ (s : List ℕ) (x : Ctx) (u q : ℕ) where
 ---------------------------------------------------------------- the extension bit
 
 -- a set one has no reader
-pub pdu-extended : {s : List ℕ} {a z : At} {w : List ℕ} {d : Cursor} (g : Got) → Pulls s a.c 1 g → (k : ℕ) (ground : Bool) → (g.v ≡ 0 → ⊥) → d ≡ marked g.c 2 → z ≡ record { n = a.n; c = stopped d 5 0 }
+pub pdu-extended : {s : List ℕ} {a z : At} {w : List ℕ} {d : Cursor} (g : Got ℕ) → Pulls s a.c 1 g → (k : ℕ) (ground : Bool) → (g.v ≡ 0 → ⊥) → d ≡ marked g.c 2 → z ≡ record { n = a.n; c = stopped d 5 0 }
     → Does k 0 (Takes (pdu_of ground) s) a z w w
 pdu-extended g p k true n e q = does_within k (omega arith) (does_extended g p n e (does_refused bad 0 (λ y. omega arith) q))
 pdu-extended g p k false n e q = does_within k (omega arith) (does_extended g p n e (does_refused bad 0 (λ y. omega arith) q))

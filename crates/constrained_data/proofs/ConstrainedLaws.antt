@@ -130,7 +130,7 @@ told-nothing (r ∷ R) t = absurd (omega (arith, t.count, t.few))
 
 ---------------------------------------------------------------- the constrained data
 
-module _ {s : List ℕ} {c : Cursor} {g : Got} (z : c.why ≡ 0) (x : Counts s c g) where
+module _ {s : List ℕ} {c : Cursor} {g : Got ℕ} (z : c.why ≡ 0) (x : Counts s c g) where
   framed : {b n : ℕ} {w w' : List ℕ} {r : At} → Runs b (λ e p. attempts (bit_of s) g.v e p) s g.c n w w' r → Runs b (λ e p. read frame (0, 0) (bit_of s) e p) s c n w w' r
   framed y = runs_same (λ e p. count_then (bit_of s) e p (λ m q. attempts (bit_of s) m e q)) _ (λ i _. sym (frame-count (bit_of s) c.end c.at)) (x.then (λ m e p. attempts (bit_of s) m e p) y)
 

@@ -28,7 +28,7 @@ takes_noted {f} {s} {c} t v y h = record { took = λ x. reads_then (λ u p. ok p
 
 ---------------------------------------------------------------- extension bits
 
-module _ {f k : Fmt} {s : List ℕ} {c d : Cursor} {T : ℕ → List Rec} (g : Got) where
+module _ {f k : Fmt} {s : List ℕ} {c d : Cursor} {T : ℕ → List Rec} (g : Got ℕ) where
   pub takes_root : Pulls s c 1 g → g.v ≡ 0 → Takes f s g.c d T → Takes (ext f k) s c d T
   unfolding read fork
   takes_root p z h =
@@ -51,7 +51,7 @@ module _ {f k : Fmt} {s : List ℕ} {c d : Cursor} {T : ℕ → List Rec} (g : G
 ---------------------------------------------------------------- choices
 
 -- the index, then the alternative that it names
-pub takes_choice : (t : ℕ) (fs : Alts) {s : List ℕ} {c d : Cursor} {T : ℕ → List Rec} (g : Got) → Pulls s c (width (highest (alternatives_of fs))) g
+pub takes_choice : (t : ℕ) (fs : Alts) {s : List ℕ} {c d : Cursor} {T : ℕ → List Rec} (g : Got ℕ) → Pulls s c (width (highest (alternatives_of fs))) g
     → ((x : Ctx) → Reads (λ u q. read_choice fs g.v x (bit_of s) u q) s g.c d (T x.0)) → Takes (choice t fs) s c d (λ n. rec t n g.v 0 c.at ∷ T n)
 unfolding read
 takes_choice t fs {s} {c} {d} {T} g p h =
@@ -150,7 +150,7 @@ pub takes_plain : {fs : Flds} {s : List ℕ} {c d : Cursor} {T : ℕ → List Re
 takes_plain {fs} n a h = record { took = λ x. reads_plain fs x n a (h.took x) }
 
 -- with n of them, which were opened; that the cursor is inside its window may be used of the fields
-pub takes_opened : {fs : Flds} {s : List ℕ} {c d : Cursor} {T : ℕ → List Rec} (n : ℕ) (g : Got) → flags fs ≡ n → all_read fs ≡ true → Opens s c n g → (Inside s c → Fields fs s g.c d c.at T) → Takes (seq fs) s c d T
+pub takes_opened : {fs : Flds} {s : List ℕ} {c d : Cursor} {T : ℕ → List Rec} (n : ℕ) (g : Got ℕ) → flags fs ≡ n → all_read fs ≡ true → Opens s c n g → (Inside s c → Fields fs s g.c d c.at T) → Takes (seq fs) s c d T
 unfolding read
 takes_opened {fs} {s} {c} {d} {T} n g f a o h = record { took = λ x. record { led = λ i. go x i (o.gave i) ((h i).took x) } }
   where
@@ -166,7 +166,7 @@ takes_opened {fs} {s} {c} {d} {T} n g f a o h = record { took = λ x. record { l
         (sym (fetch_go (bit_of s) c.end c.at (flags fs) _ _ (omega arith) ∙ rw (read_unmarked fs (bit_of s) c.at a, f) (then-nil (c.at + n) (λ p. read_fields fs x (bit_of s) c.end c.at p))))
         (r.led (rw q (l, i.1)))
 
-pub opened_inside : {s : List ℕ} {c : Cursor} {n : ℕ} {g : Got} → Inside s c → Opens s c n g → Inside s g.c
+pub opened_inside : {s : List ℕ} {c : Cursor} {n : ℕ} {g : Got ℕ} → Inside s c → Opens s c n g → Inside s g.c
 opened_inside {s} {c} {n} {g} i o = go (o.gave i)
   where
     go : Opened s c n g → Inside s g.c
@@ -190,7 +190,7 @@ pub takes_back : {f : Fmt} {s : List ℕ} {c d : Cursor} {T : ℕ → List Rec} 
 takes_back {f} {s} h i = reads_back (λ u p. read f (0, 0) (bit_of s) u p) (h.took (0, 0)) i
 
 -- a presence bit, out of the number of n of them
-pub opened-bit : {s : List ℕ} {c : Cursor} {n : ℕ} {g : Got} (j : ℕ) → Inside s c → Opens s c n g → j < n → g.c.why ≡ 0 → g.v / 2 ^ (n - 1 - j) % 2 ≡ bit_of s (c.at + j)
+pub opened-bit : {s : List ℕ} {c : Cursor} {n : ℕ} {g : Got ℕ} (j : ℕ) → Inside s c → Opens s c n g → j < n → g.c.why ≡ 0 → g.v / 2 ^ (n - 1 - j) % 2 ≡ bit_of s (c.at + j)
 opened-bit {s} {c} {n} {g} j i o l z = go (o.gave i)
   where
     go : Opened s c n g → g.v / 2 ^ (n - 1 - j) % 2 ≡ bit_of s (c.at + j)
@@ -199,7 +199,7 @@ opened-bit {s} {c} {n} {g} j i o l z = go (o.gave i)
     go (opened h k v q) = rw v (bit-of s c.at j (n - 1 - j) n (omega arith))
 
 -- the last of them
-pub last_bit : {s : List ℕ} {c : Cursor} {g : Got} (n : ℕ) → Inside s c → Opens s c (suc n) g → g.c.why ≡ 0 → g.v % 2 ≡ bit_of s (c.at + n)
+pub last_bit : {s : List ℕ} {c : Cursor} {g : Got ℕ} (n : ℕ) → Inside s c → Opens s c (suc n) g → g.c.why ≡ 0 → g.v % 2 ≡ bit_of s (c.at + n)
 last_bit {s} {c} {g} n i o z =
     let e : suc n - 1 - n ≡ 0 = omega arith in
     let y : g.v / 2 ^ (suc n - 1 - n) % 2 ≡ bit_of s (c.at + n) = opened-bit n i o (omega arith) z in

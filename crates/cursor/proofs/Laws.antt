@@ -96,12 +96,12 @@ reads_stop w m n q = reads_stop_with [] w m n q
 abbrev pub Behind : List ℕ → ℕ → (ℕ → ℕ → ℕ → Ans) → ℕ → ℕ → Ans
 Behind s n k u p = pull (bit_of s) u p n (λ v. k v u (p + n))
 
-pub pulled_inside : (s : List ℕ) (c : Cursor) (n : ℕ) (g : Got) → Inside s c → Pulled s c n g → Inside s g.c
+pub pulled_inside : (s : List ℕ) (c : Cursor) (n : ℕ) (g : Got ℕ) → Inside s c → Pulled s c n g → Inside s g.c
 pulled_inside s c n g i (stuck h q) = rw q i
 pulled_inside s c n g i (short z l q) = rw q i
 pulled_inside s c n g i (got z l v q) = rw q (l, i.1)
 
-module _ {s : List ℕ} {c d : Cursor} {R : List Rec} (n : ℕ) (g : Got) (k : ℕ → ℕ → ℕ → Ans) where
+module _ {s : List ℕ} {c d : Cursor} {R : List Rec} (n : ℕ) (g : Got ℕ) (k : ℕ → ℕ → ℕ → Ans) where
   pulled_then : Inside s c → Pulled s c n g → Led (λ u p. k g.v u p) g.c d R → Led (Behind s n k) c d R
   pulled_then i (stuck h q) r = stayed h (led_stays _ g.c d (rw q h) r ∙ q)
   pulled_then i (short z l q) r =
@@ -113,7 +113,7 @@ module _ {s : List ℕ} {c d : Cursor} {R : List Rec} (n : ℕ) (g : Got) (k : �
   pull-then x y = record { led = λ i. pulled_then i (x.gave i) (y.led (pulled_inside s c n g i (x.gave i))) }
 
 -- the same where what follows also knows the place at which the bits started
-pub pull-from : {s : List ℕ} {c d : Cursor} {R : List Rec} (n : ℕ) (g : Got) (k : ℕ → ℕ → ℕ → ℕ → Ans) → Pulls s c n g → Reads (λ u q. k c.at g.v u q) s g.c d R
+pub pull-from : {s : List ℕ} {c d : Cursor} {R : List Rec} (n : ℕ) (g : Got ℕ) (k : ℕ → ℕ → ℕ → ℕ → Ans) → Pulls s c n g → Reads (λ u q. k c.at g.v u q) s g.c d R
     → Reads (λ u p. pull (bit_of s) u p n (λ v. k p v u (p + n))) s c d R
 pull-from {s} {c} n g k x y = reads_same (Behind s n (k c.at)) (λ u p. pull (bit_of s) u p n (λ v. k p v u (p + n))) refl (pull-then n g (k c.at) x y)
 

@@ -20,7 +20,7 @@ module _ (s : List ℕ) (c : Cursor) (n : ℕ) where
     pulls_short l q = record { gave = λ i. short goes (omega (arith, i.0)) (ap (λ (x : ℕ). put c c.at x c.marks) (q ∙ ap (λ (k : ℕ). number (out k)) (omega (arith, i.0)))) }
 
 -- presence bits, from the bits that were asked for
-module _ (s : List ℕ) (c : Cursor) (n : ℕ) {g : Got} (p : Pulls s c n g) where
+module _ (s : List ℕ) (c : Cursor) (n : ℕ) {g : Got ℕ} (p : Pulls s c n g) where
   pub opens_stuck : (c.why ≡ 0 → ⊥) → Opens s c n g
   opens_stuck h = record { gave = λ i. go (p.gave i) }
     where

@@ -28,21 +28,21 @@ abbrev pub Inside : List ℕ → Cursor → Type 0
 Inside s c = (c.at ≤ c.end) × (c.end ≤ length s * 8)
 
 -- What n bits gave: nothing behind a failure; ran out without moving, with the bits lacked; or the number.
-pub data Pulled (s : List ℕ) (c : Cursor) (n : ℕ) (g : Got) : Type 0 where
+pub data Pulled (s : List ℕ) (c : Cursor) (n : ℕ) (g : Got ℕ) : Type 0 where
   stuck : (c.why ≢ 0) → g.c ≡ c → Pulled s c n g
   short : c.why ≡ 0 → c.end < c.at + n → g.c ≡ put c c.at (number (out (c.at + n - c.end))) c.marks → Pulled s c n g
   got : c.why ≡ 0 → c.at + n ≤ c.end → g.v ≡ uint (bit_of s) c.at n → g.c ≡ put c (c.at + n) 0 c.marks → Pulled s c n g
 
-pub record Pulls (s : List ℕ) (c : Cursor) (n : ℕ) (g : Got) : Type 0 where
+pub record Pulls (s : List ℕ) (c : Cursor) (n : ℕ) (g : Got ℕ) : Type 0 where
   pub gave : Inside s c → Pulled s c n g
 
 -- What n presence bits gave: as above, but they are taken one after another, so that what is there of them counts, and the next lacks its one bit.
-pub data Opened (s : List ℕ) (c : Cursor) (n : ℕ) (g : Got) : Type 0 where
+pub data Opened (s : List ℕ) (c : Cursor) (n : ℕ) (g : Got ℕ) : Type 0 where
   shut_already : (c.why ≢ 0) → g.c ≡ c → Opened s c n g
   ran_short : c.why ≡ 0 → c.end < c.at + n → g.c ≡ put c c.end (number (out 1)) c.marks → Opened s c n g
   opened : c.why ≡ 0 → c.at + n ≤ c.end → g.v ≡ uint (bit_of s) c.at n → g.c ≡ put c (c.at + n) 0 c.marks → Opened s c n g
 
-pub record Opens (s : List ℕ) (c : Cursor) (n : ℕ) (g : Got) : Type 0 where
+pub record Opens (s : List ℕ) (c : Cursor) (n : ℕ) (g : Got ℕ) : Type 0 where
   pub gave : Inside s c → Opened s c n g
 
 -- How a reading k, a function of the window's end and the place, led from the cursor c to the cursor d, with the records R:

@@ -14,8 +14,8 @@ pub struct Cursor {
 }
 
 #[derive(Clone, Copy)]
-pub struct Got {
-    pub v: u64,
+pub struct Got<T> {
+    pub v: T,
     pub c: Cursor,
 }
 
@@ -28,7 +28,7 @@ pub fn ran_out(lacked: usize) -> u64
 }
 
 // The next n bits as a number. Where the window is too short for them it says so and does not move. That the cursor is in its window, and that in the frame, is not tested: what it gives elsewhere nobody may use.
-pub fn bits(s: &[u8], c: Cursor, n: usize) -> Got
+pub fn bits(s: &[u8], c: Cursor, n: usize) -> Got<u64>
     requires { n ≤ 64 }
     ensures { Pulls s.now c n result }
 {
@@ -65,7 +65,7 @@ pub fn bits(s: &[u8], c: Cursor, n: usize) -> Got
 }
 
 // The next n presence bits as a number. They are taken one after another: where the window is too short for all, what is there of them is taken, and the next lacks its one bit.
-pub fn presence(s: &[u8], c: Cursor, n: usize) -> Got
+pub fn presence(s: &[u8], c: Cursor, n: usize) -> Got<u64>
     requires { n ≤ 64 }
     ensures { Opens s.now c n result }
 {

@@ -21,7 +21,7 @@ use Rattle.date_times.specs.declared.DateTime.{DateTime}
 use Rattle.date_times.specs.declared.DateTimeAt.{DateTimeAt}
 use Rattle.date_times.specs.Times.{bits, DateTimes, date_time_recs}
 
-abbrev time : Cursor → Got → Got → Got → Got → Got → Got → DateTimeAt
+abbrev time : Cursor → Got ℕ → Got ℕ → Got ℕ → Got ℕ → Got ℕ → Got ℕ → DateTimeAt
 time c year month day hours minutes seconds =
     record {
       time = record { at = c.at; year = year.v; month = month.v; day = day.v; hours = hours.v; minutes = minutes.v; seconds = seconds.v };
@@ -33,7 +33,7 @@ abbrev told_at : DateTime → ℕ → ℕ → ℕ → ℕ → ℕ → ℕ → Li
 told_at v b d e f g n =
     rec 11 n v.year 0 v.at ∷ rec 12 n v.month 0 b ∷ rec 13 n v.day 0 d ∷ rec 14 n v.hours 0 e ∷ rec 15 n v.minutes 0 f ∷ rec 16 n v.seconds 0 g ∷ []
 
-module _ {s : List ℕ} {c : Cursor} (year month day hours minutes seconds : Got) (fits : c.end < 2 ^ 64)
+module _ {s : List ℕ} {c : Cursor} (year month day hours minutes seconds : Got ℕ) (fits : c.end < 2 ^ 64)
     (a : Ranged rows.year s c year) (b : Ranged rows.month s year.c month) (d : Ranged rows.day s month.c day) (e : Ranged rows.hours s day.c hours) (f : Ranged rows.minutes s hours.c minutes) (g : Ranged rows.minutes s minutes.c seconds) where
   -- where the reading went on, each number stands behind the bits of those before
   same-places : Inside s c → seconds.c.why ≡ 0 → (n : ℕ) → told_at (time c year month day hours minutes seconds).time year.c.at month.c.at day.c.at hours.c.at minutes.c.at n ≡ date_time_recs (time c year month day hours minutes seconds).time n
@@ -69,7 +69,7 @@ power_shifted w h = let g : w ≤ 63 = omega arith in let l : 2 ^ w ≤ 2 ^ 63 =
 pub power_some : (w : ℕ) → w < 64 → 0 < 1 * 2 ^ w % 2 ^ 64
 power_some w h = rw (power_shifted w h) (one-le-pow w 2 (omega arith))
 
-pub part-told : {r : Range} {c : Cursor} {w k : ℕ} {g : Got} (v b : ℕ) → w ≡ k → k < 64 → FromLowest r c (v / 2 ^ b % (1 * 2 ^ w % 2 ^ 64)) g → FromLowest r c (v / 2 ^ b % 2 ^ k) g
+pub part-told : {r : Range} {c : Cursor} {w k : ℕ} {g : Got ℕ} (v b : ℕ) → w ≡ k → k < 64 → FromLowest r c (v / 2 ^ b % (1 * 2 ^ w % 2 ^ 64)) g → FromLowest r c (v / 2 ^ b % 2 ^ k) g
 part-told {k = k} v b e h t = rw (e, power_shifted k h) at t
 
 -- the n bits behind the first m, of which k stand behind those
@@ -77,7 +77,7 @@ part_stands : {s : List ℕ} {e p v b q : ℕ} (m n k : ℕ) → Stands s e p (m
 part_stands m n k h i j = rw (i, j) (stands_last m n (stands_first (m + n) k h))
 
 -- the numbers are told by the cursor behind the second pull, which takes the marks of one after another
-pub at_once : {s : List ℕ} {c : Cursor} {first second : Got} {wide behind-year behind-month behind-day narrow behind-minutes : ℕ} (year month day hours minutes seconds : Got)
+pub at_once : {s : List ℕ} {c : Cursor} {first second : Got ℕ} {wide behind-year behind-month behind-day narrow behind-minutes : ℕ} (year month day hours minutes seconds : Got ℕ)
     → Pulls s c wide first → first.c.why ≡ 0 → Pulls s first.c narrow second → second.c.why ≡ 0
     → FromLowest (row_at rows.year) second.c (first.v / 2 ^ behind-year % 2 ^ bits rows.year) year
     → FromLowest (row_at rows.month) year.c (first.v / 2 ^ behind-month % 2 ^ bits rows.month) month

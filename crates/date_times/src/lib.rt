@@ -35,7 +35,7 @@ pub struct DateTimeAt {
 }
 
 // A number of the range among the bits of v, with so many of them behind it, told by the cursor c.
-fn part(c: Cursor, v: u64, behind: usize, range: Range) -> Got
+fn part(c: Cursor, v: u64, behind: usize, range: Range) -> Got<u64>
     requires { (behind < 64) × (width_of range < 64) }
     ensures { FromLowest range c (v / 2 ^ behind % 2 ^ width_of range) result }
 {

@@ -25,7 +25,7 @@ from s p = record { at = p; end = length s * 8; why = 0; marks = 0 }
 abbrev pub found : ℕ → ℕ → ℕ → Written
 found w m v = cond (eqb w 0) (is v m) (cond (eqb w 5) bad other)
 
-abbrev pub of_got : Got → Written
+abbrev pub of_got : Got ℕ → Written
 of_got g = found g.c.why g.c.marks g.v
 
 -- whatever result the contract of the code allows, it is written as a
@@ -33,13 +33,13 @@ abbrev pub Only : Question → Written → Type 0
 -- `field_ranges::table::Range::width`
 Only (range lo hi) a = (r : Range) (n : ℕ) → r.lo ≡ lo → r.hi ≡ hi → n ≡ width_of r → bits n ≡ a
 -- `ranged_numbers::ranged`
-Only (field lo hi r) a = (k : ℕ) (g : Got) → lowest k ≡ lo → highest k ≡ hi → Ranged k (raw_bytes r) (from (raw_bytes r) (raw_place (width (extent lo hi)))) g → of_got g ≡ a
+Only (field lo hi r) a = (k : ℕ) (g : Got ℕ) → lowest k ≡ lo → highest k ≡ hi → Ranged k (raw_bytes r) (from (raw_bytes r) (raw_place (width (extent lo hi)))) g → of_got g ≡ a
 -- `character_strings::size`
-Only (count_of lo hi r) a = (k : ℕ) (g : Got) → lowest k ≡ lo → highest k ≡ hi → Sized k (raw_bytes r) (from (raw_bytes r) (raw_place (width (hi - lo)))) g → of_got g ≡ a
+Only (count_of lo hi r) a = (k : ℕ) (g : Got ℕ) → lowest k ≡ lo → highest k ≡ hi → Sized k (raw_bytes r) (from (raw_bytes r) (raw_place (width (hi - lo)))) g → of_got g ≡ a
 -- `length_determinants::length`
 Only (length_of s) a = (l : Measured) → Measures s (from s 0) l → found l.c.why l.c.marks l.count ≡ a
 -- `length_determinants::small`, behind the mark that its caller makes
-Only (small_octets cs) a = (g : Got) → Smalls (small_bytes cs) (marked (from (small_bytes cs) 7) 2) g → of_got g ≡ a
+Only (small_octets cs) a = (g : Got ℕ) → Smalls (small_bytes cs) (marked (from (small_bytes cs) 7) 2) g → of_got g ≡ a
 -- the entries
 Only (frame e s) a = (r : Answer) (w : List ℕ) → Says r w (enters e s lent) → of_answer (answer_of r) ≡ a
 Only (told e t s) a = (r : Answer) (w : List ℕ) → Says r w (enters e s lent) → told_in t (answer_of r) w ≡ a

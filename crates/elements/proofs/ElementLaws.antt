@@ -76,7 +76,7 @@ module _ (k i : ℕ) {s : List ℕ} {c d : Cursor} {T : ℕ → List Rec} (h : T
 
 ---------------------------------------------------------------- an element
 
-module _ (table : List ℕ) (i : ℕ) {s : List ℕ} {c : Cursor} {b : ℕ} {g : Got} (width_is : b ≡ width (length table - 1)) (pulls : Pulls s c b g) where
+module _ (table : List ℕ) (i : ℕ) {s : List ℕ} {c : Cursor} {b : ℕ} {g : Got ℕ} (width_is : b ≡ width (length table - 1)) (pulls : Pulls s c b g) where
   -- behind the index, which starts where the element does
   abbrev indexed : ℕ → ℕ → ℕ → Ans
   indexed v u p = then (ok p (rec 22 i v 0 c.at ∷ []) 0) (λ q. read_choice (elements table) v (i, i) (bit_of s) u q)

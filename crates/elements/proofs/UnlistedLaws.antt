@@ -38,7 +38,7 @@ stands_first table i left {n = n} {m = m} = record { marks = m; count = n; walki
 
 module _ (table : List ℕ) (i left : ℕ) {s : List ℕ} {c : Cursor} {n : ℕ} where
   module _ {k p v b : ℕ} (wide : b ≡ width (length table - 1)) (worth : v ≡ uint (bit_of s) p b) (held : p + b ≤ c.end) (x : Stands table i left k s c n p) (more : k < left) where
-    abbrev index : Got
+    abbrev index : Got ℕ
     index = record { v = v; c = put c (p + b) 0 x.marks }
 
     pulls : Pulls s (put c p 0 x.marks) b index

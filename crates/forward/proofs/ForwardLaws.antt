@@ -72,7 +72,7 @@ module _ (down up : List ℕ) where
   direction-read (suc zero) s u p l = refl
   direction-read (suc (suc v)) s u p l = absurd (omega arith)
 
-  module _ {s : List ℕ} {c e : Cursor} {h : HeaderAt} {g : Got} {R : List Rec} (x : Headers s c h) (pulls : Pulls s h.c 1 g) (y : Reads (carried_at g.v s) s g.c e R) where
+  module _ {s : List ℕ} {c e : Cursor} {h : HeaderAt} {g : Got ℕ} {R : List Rec} (x : Headers s c h) (pulls : Pulls s h.c 1 g) (y : Reads (carried_at g.v s) s g.c e R) where
     abbrev told : List Rec
     told = rec 21 0 g.v 0 h.c.at ∷ R
 
@@ -139,7 +139,7 @@ forward_soft : (down up s : List ℕ) {c d : Cursor} {R : List Rec} → Ran (λ 
 unfolding forward_at read
 forward_soft down up s y = y
 
-module _ (down up : List ℕ) {s : List ℕ} {c : Cursor} {h : HeaderAt} {g : Got} {n : ℕ} {w : List ℕ} (goes : c.why ≡ 0) (x : Headers s c h) (pulls : Pulls s h.c 1 g) where
+module _ (down up : List ℕ) {s : List ℕ} {c : Cursor} {h : HeaderAt} {g : Got ℕ} {n : ℕ} {w : List ℕ} (goes : c.why ≡ 0) (x : Headers s c h) (pulls : Pulls s h.c 1 g) where
   pub forward_lost : {b : ℕ} {d e : Cursor} → Lacks s g.c d → Forgives d e → Runs b (forward_at down up s) s c n w w (record { n = n; c = e })
   forward_lost {b} lacks f =
       let tells = tells_lost (data_of g.v down up) {n = n} {w = w} (data_of_placeless g.v down up) lacks in

@@ -135,7 +135,7 @@ lone_pack us q y z {v} {n} {a} {S} l h u = go ((length us + 7) / 8) refl u
     go zero g e = absurd (let x : ◌≡◌ {A = ℕ} 19 20 = cc in omega arith)
     go (suc k) g e = let x : n ≡ length us = cc in let o : octets 8 us ≡ v = cc in let i : (length us + 7) / 8 ≡ 1 = omega arith in rw (i, o, x)
 
-module _ (down up s : List ℕ) {p : ℕ} {R : List Rec} (clean : read_frame (ground_pdus down up) s ≡ accept false p 0 R) {g : Got} (pulls : Pulls s (record { at = 1; end = length s * 8; why = 0; marks = 0 }) 3 g) where
+module _ (down up s : List ℕ) {p : ℕ} {R : List Rec} (clean : read_frame (ground_pdus down up) s ≡ accept false p 0 R) {g : Got ℕ} (pulls : Pulls s (record { at = 1; end = length s * 8; why = 0; marks = 0 }) 3 g) where
   pulled : (g.v ≡ uint (bit_of s) 1 3) × (g.c ≡ record { at = 4; end = length s * 8; why = 0; marks = 0 })
   pulled = let l = (begins down up s clean).there in go l (pulls.gave (omega arith, omega arith))
     where

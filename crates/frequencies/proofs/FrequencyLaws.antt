@@ -38,8 +38,8 @@ channel-recs (suc zero) s v n h = absurd (omega arith)
 channel-recs (suc (suc zero)) s v n h = absurd (omega arith)
 channel-recs (suc (suc (suc k))) s v n h = refl
 
-module _ {s : List ℕ} {c : Cursor} (g : Got) (p : Pulls s c 2 g) where
-  pub frequency_number : (r : Got) → g.v < 3 → Ranged (rows.frequency_0 + g.v) s g.c r
+module _ {s : List ℕ} {c : Cursor} (g : Got ℕ) (p : Pulls s c 2 g) where
+  pub frequency_number : (r : Got ℕ) → g.v < 3 → Ranged (rows.frequency_0 + g.v) s g.c r
       → Frequencies s c (record { frequency = record { kind = g.v; kind_at = c.at; number = r.v; number_at = g.c.at; channel = record { from = 0; at = 0; len = 0 } }; c = r.c })
   unfolding frequency_recs lowest highest width width_in encoding.highest count
   frequency_number r l h =

@@ -8,7 +8,7 @@ use Rattle.cursor.specs.declared.place.Cursor.{Cursor}
 use Rattle.cursor.specs.declared.place.Got.{Got}
 use Rattle.cursor.specs.Place.{Pulled, stuck, short, got, Pulls}
 
-pub pulls_last : {s : List ℕ} {c : Cursor} (n top : ℕ) (g : Got) → 2 ^ n ≡ suc top → Pulls s c n g → top ≤ g.v → Pulls s c n (record { v = top; c = g.c })
+pub pulls_last : {s : List ℕ} {c : Cursor} (n top : ℕ) (g : Got ℕ) → 2 ^ n ≡ suc top → Pulls s c n g → top ≤ g.v → Pulls s c n (record { v = top; c = g.c })
 pulls_last {s} {c} n top g full p h = record { gave = λ i. go (p.gave i) }
   where
     go : Pulled s c n g → Pulled s c n (record { v = top; c = g.c })

@@ -60,5 +60,5 @@ module _ {s : List ℕ} {c d : Cursor} {l : Measured} (measures : Measures s c l
       go (suc k) y u = u
 
 -- eight bits that are 0
-pub integrity-clear : {s : List ℕ} {c : Cursor} {g : Got} {n : ℕ} {w : List ℕ} → Pulls s c 8 g → c.why ≡ 0 → g.c.why ≡ 0 → g.v ≡ 0 → Runs 1 (integrity s) s c n w w (record { n = n; c = g.c })
+pub integrity-clear : {s : List ℕ} {c : Cursor} {g : Got ℕ} {n : ℕ} {w : List ℕ} → Pulls s c 8 g → c.why ≡ 0 → g.c.why ≡ 0 → g.v ≡ 0 → Runs 1 (integrity s) s c n w w (record { n = n; c = g.c })
 integrity-clear {g = g} x h z v = integrity-none (measures_short x z (omega arith)) (rw v (nothing_passed g.c z)) h (λ q. omega arith) (λ q. omega arith) v

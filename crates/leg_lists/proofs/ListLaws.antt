@@ -40,7 +40,7 @@ module _ {s : List ℕ} {c : Cursor} {n : ℕ} where
       (158 * (i + 1)) (omega arith)
 
 -- a size, and a part for each
-part-sized : {b k : ℕ} (K : ℕ → ℕ → ℕ → Ans) {s : List ℕ} {c : Cursor} {g : Got} {n : ℕ} {w w' : List ℕ} {r : At} → Sized k s c g → Part b (λ e p. K g.v e p) s g.c n w w' r
+part-sized : {b k : ℕ} (K : ℕ → ℕ → ℕ → Ans) {s : List ℕ} {c : Cursor} {g : Got ℕ} {n : ℕ} {w w' : List ℕ} {r : At} → Sized k s c g → Part b (λ e p. K g.v e p) s g.c n w w' r
     → Part b (λ e p. sized (bit_of s) e p (lowest k) (highest k) (λ m q. K m e q)) s c n w w' r
 part-sized {k = k} K {s} {c} {g} z x =
     let alone : Reads (λ e p. sized (bit_of s) e p (lowest k) (highest k) (λ m q. ok q [] 0)) s c g.c [] = z.size (λ m e p. ok p [] 0) (reads_ok [] 0 (marked-nil g.c)) in
@@ -51,7 +51,7 @@ part-sized {k = k} K {s} {c} {g} z x =
       told = x.told;
     }
 
-pub legs-all : {s : List ℕ} {c : Cursor} {g : Got} {n i : ℕ} {w w' : List ℕ} {r : At} → Sized rows.legs s c g → i ≡ g.v → Part (158 * i) (legs_of s i) s g.c n w w' r
+pub legs-all : {s : List ℕ} {c : Cursor} {g : Got ℕ} {n i : ℕ} {w w' : List ℕ} {r : At} → Sized rows.legs s c g → i ≡ g.v → Part (158 * i) (legs_of s i) s g.c n w w' r
     → Part 80896 (λ e p. read (many 1 128 message.leg) (0, 0) (bit_of s) e p) s c n w w' r
 unfolding read lowest highest
 legs-all {s} z q x = part-within (part-sized (legs_of s) z (rw q at x)) 80896 (omega (arith, z.few))

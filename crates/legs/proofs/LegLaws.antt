@@ -41,7 +41,7 @@ ranging_stops {e = e} x y q =
 abbrev alts : Alts
 alts = message.published ∥ message.latlon ∥ many 2 2 bearing ∥ ranging ∥ message.ia5 101 2 7 ∥ none_left
 
-module _ {s : List ℕ} {c d : Cursor} (g : Got) (p : Pulls s c 3 g) where
+module _ {s : List ℕ} {c d : Cursor} (g : Got ℕ) (p : Pulls s c 3 g) where
   pub leg-place : (v : Published) → g.v ≡ 0 → Takes message.published s g.c d (published_recs s v) → Takes route_information s c d (leg_recs s c.at (Place v))
   unfolding leg_recs read_choice width width_in encoding.highest count
   leg-place v z h = takes_index 97 alts 0 _ g p z (λ x u q. refl) h

@@ -77,14 +77,14 @@ reads_stays {s} {c} {d} {e} k l h x y = record { led = λ i. rw (led_stays l d e
 ---------------------------------------------------------------- bits that were pulled
 
 -- a reading that goes on behind n bits came through them
-record Through (s : List ℕ) (c : Cursor) (n : ℕ) (g : Got) : Type 0 where
+record Through (s : List ℕ) (c : Cursor) (n : ℕ) (g : Got ℕ) : Type 0 where
   pub goes : c.why ≡ 0
   pub place : g.c.at ≡ c.at + n
   pub window : g.c.end ≡ c.end
   pub room : c.at + n ≤ c.end
   pub worth : g.v ≡ uint (bit_of s) c.at n
 
-module _ {s : List ℕ} {c : Cursor} {n : ℕ} {g : Got} where
+module _ {s : List ℕ} {c : Cursor} {n : ℕ} {g : Got ℕ} where
   inside-behind : Inside s c → Pulled s c n g → Inside s g.c
   inside-behind i (stuck h q) = rw q i
   inside-behind i (short z l q) = rw q i
@@ -160,35 +160,35 @@ module _ (s : List ℕ) (k : ℕ → ℕ → ℕ → Ans) where
       let e₄ : p + 2 + 6 ≡ p + 8 = omega arith in
       simp (e₁, e₂, e₃, e₄)
 
-module _ {s : List ℕ} {c : Cursor} (i : Inside s c) {form : Got} (a : Pulls s c 1 form) where
+module _ {s : List ℕ} {c : Cursor} (i : Inside s c) {form : Got ℕ} (a : Pulls s c 1 form) where
   there : Inside s form.c
   there = inside-behind i (a.gave i)
 
   headed : (k : ℕ → ℕ → ℕ → Ans) (g : ℕ) {e : Cursor} {R : List Rec} → Reads (λ u p. any_form s k g form.v u p) s form.c e R → Reads (λ u p. lengths (suc g) (bit_of s) u p (λ n q. k n u q)) s c e R
   headed k g r = reads_same (Behind s 1 (any_form s k g)) _ (forms-lengths s k g c.end c.at) (pull-then 1 form (any_form s k g) a r)
 
-  pub head_short : {n : Got} → form.v ≡ 0 → Known s form.c 7 n → Ends s c n.v n.c
+  pub head_short : {n : Got ℕ} → form.v ≡ 0 → Known s form.c 7 n → Ends s c n.v n.c
   head_short {n} z h =
       record {
         then = λ k g r. headed k g (reads_clear form.v (Behind s 7 k) (Behind s 1 (many_form s k g)) z (pull-then 7 n k h.pulls r));
         few = omega (arith, h.below there);
       }
 
-  module _ (set : form.v ≡ 0 → ⊥) {more : Got} (b : Pulls s form.c 1 more) where
+  module _ (set : form.v ≡ 0 → ⊥) {more : Got ℕ} (b : Pulls s form.c 1 more) where
     beyond : Inside s more.c
     beyond = inside-behind there (b.gave there)
 
     headed-set : (k : ℕ → ℕ → ℕ → Ans) (g : ℕ) {e : Cursor} {R : List Rec} → Reads (λ u p. many_form s k g more.v u p) s more.c e R → Reads (λ u p. lengths (suc g) (bit_of s) u p (λ n q. k n u q)) s c e R
     headed-set k g r = headed k g (reads_set form.v (Behind s 7 k) (Behind s 1 (many_form s k g)) set (pull-then 1 more (many_form s k g) b r))
 
-    pub head_long : {n : Got} {d : Cursor} → more.v ≡ 0 → Known s more.c 14 n → d ≡ marked n.c (unless (leb 128 n.v) 5) → Ends s c n.v d
+    pub head_long : {n : Got ℕ} {d : Cursor} → more.v ≡ 0 → Known s more.c 14 n → d ≡ marked n.c (unless (leb 128 n.v) 5) → Ends s c n.v d
     head_long {n} z h q =
         record {
           then = λ k g r. headed-set k g (reads_clear more.v (Behind s 14 (long_form s k)) (Behind s 6 (fragment_form s k g)) z (pull-then 14 n (long_form s k) h.pulls (reads_mark _ (k n.v) q r)));
           few = omega (arith, h.below beyond);
         }
 
-    module _ (also : more.v ≡ 0 → ⊥) {m : Got} (h : Known s more.c 6 m) where
+    module _ (also : more.v ≡ 0 → ⊥) {m : Got ℕ} (h : Known s more.c 6 m) where
       multiplied : (k : ℕ → ℕ → ℕ → Ans) (g : ℕ) {e : Cursor} {R : List Rec} → Reads (λ u p. fragment_form s k g m.v u p) s m.c e R → Reads (λ u p. lengths (suc g) (bit_of s) u p (λ n q. k n u q)) s c e R
       multiplied k g r = headed-set k g (reads_set more.v (Behind s 14 (long_form s k)) (Behind s 6 (fragment_form s k g)) also (pull-then 6 m (fragment_form s k g) h.pulls r))
 
@@ -260,7 +260,7 @@ module _ {s : List ℕ} {c : Cursor} where
   measures_lost l = measures_out (λ i. omega (arith, i.1))
 
   -- eight bits below 128 are a bit that is clear and seven bits
-  pub measures_short : {g : Got} → Pulls s c 8 g → g.c.why ≡ 0 → g.v < 128 → Measures s c (record { count = g.v; c = g.c })
+  pub measures_short : {g : Got ℕ} → Pulls s c 8 g → g.c.why ≡ 0 → g.v < 128 → Measures s c (record { count = g.v; c = g.c })
   unfolding length_then
   measures_short {g} x z l = measures_where (omega arith) (λ i. go i (x.gave i))
     where
@@ -269,7 +269,7 @@ module _ {s : List ℕ} {c : Cursor} where
       go i (short y o q) = absurd (let w = rw q at z in omega arith)
       go i (got y o v q) =
           let e : uint (bit_of s) c.at 8 ≡ uint (bit_of s) c.at 1 * 2 ^ 7 + uint (bit_of s) (c.at + 1) 7 = uint-split (bit_of s) c.at 1 7 in
-          let form : Got = record { v = uint (bit_of s) c.at 1; c = put c (c.at + 1) 0 c.marks } in
+          let form : Got ℕ = record { v = uint (bit_of s) c.at 1; c = put c (c.at + 1) 0 c.marks } in
           let a : Pulls s c 1 form = record { gave = λ _. got y (omega arith) refl refl } in
           let b : Pulls s form.c 7 g = record { gave = λ _. got refl (omega arith) (omega arith) (q ∙ ap (λ (p : ℕ). put c p 0 c.marks) (omega arith)) } in
           let h : Ends s c g.v g.c = head_short i a (omega arith) (record { pulls = b; below = λ _. omega arith; there = λ _. z }) in
@@ -290,7 +290,7 @@ word_last s at n l =
 
 module _ {s : List ℕ} {c : Cursor} {n : ℕ} where
   -- passed over, and worth so much where they are there
-  worth_of : {g : Got} → Pulls s c n (record { v = uint (bit_of s) c.at n; c = g.c }) → (Inside s c → g.c.why ≡ 0 → g.v ≡ word (uint (bit_of s) c.at n)) → Worth s c n g
+  worth_of : {g : Got ℕ} → Pulls s c n (record { v = uint (bit_of s) c.at n; c = g.c }) → (Inside s c → g.c.why ≡ 0 → g.v ≡ word (uint (bit_of s) c.at n)) → Worth s c n g
   worth_of {g} x h =
       record {
         then = λ k r.
@@ -301,7 +301,7 @@ module _ {s : List ℕ} {c : Cursor} {n : ℕ} where
             };
       }
 
-  pub worth_few : {g : Got} → n ≤ 64 → Pulls s c n g → Worth s c n g
+  pub worth_few : {g : Got ℕ} → n ≤ 64 → Pulls s c n g → Worth s c n g
   unfolding word
   worth_few {g} l x = worth_of (record { gave = λ i. same (x.gave i) }) (λ i z. (through (x.gave i) z).worth ∙ sym (mod-eq_of_lt (uint-below-wide 64 s c.at n l)))
     where
@@ -318,7 +318,7 @@ module _ {s : List ℕ} {c : Cursor} {n : ℕ} where
       pub worth_lost : d.at < 64 → Worth s c n (record { v = 0; c = d })
       worth_lost l = worth_of (x.pulls s) (λ i _. absurd (let p = (through ((x.pulls s).gave i) z).place in omega arith))
 
-      pub worth_last : {g : Got} → 64 ≤ d.at → Pulls s (put d (d.at - 64) 0 d.marks) 64 g → Worth s c n g
+      pub worth_last : {g : Got ℕ} → 64 ≤ d.at → Pulls s (put d (d.at - 64) 0 d.marks) 64 g → Worth s c n g
       worth_last {g} l y =
           worth_of (record { gave = λ i. rw (eight (inside-behind i ((x.pulls s).gave i))).0 ((x.pulls s).gave i) })
           (λ i _.
@@ -337,7 +337,7 @@ module _ {s : List ℕ} {c : Cursor} {n : ℕ} where
               go (short _ o q) = absurd (omega (arith, j.0))
               go (got _ o v q) = (q ∙ home, v)
 
-module _ {s : List ℕ} {c : Cursor} {form : Got} (a : Pulls s c 1 form) where
+module _ {s : List ℕ} {c : Cursor} {form : Got ℕ} (a : Pulls s c 1 form) where
   module _ (k : ℕ → ℕ → ℕ → Ans) where
     abbrev octets_form : ℕ → ℕ → Ans
     octets_form u p = length_then (bit_of s) u p (λ n q. pull (bit_of s) u q (n * 8) (λ v. k (word v) u (q + n * 8)))
@@ -349,17 +349,17 @@ module _ {s : List ℕ} {c : Cursor} {form : Got} (a : Pulls s c 1 form) where
     unfolding small_then
     begun r = reads_same (Behind s 1 small_form) _ (let e : c.at + 1 + 6 ≡ c.at + 7 = omega arith in simp e) (pull-then 1 form small_form a r)
 
-  pub smalls_six : {g : Got} → form.v ≡ 0 → Pulls s form.c 6 g → Smalls s c g
+  pub smalls_six : {g : Got ℕ} → form.v ≡ 0 → Pulls s form.c 6 g → Smalls s c g
   smalls_six {g} z x = record { then = λ k r. begun k (reads_clear form.v (Behind s 6 k) (octets_form k) z (pull-then 6 g k x r)) }
 
-  pub smalls_octets : {l : Measured} {g : Got} → (form.v ≡ 0 → ⊥) → Measures s form.c l → Worth s l.c (l.count * 8) g → Smalls s c g
+  pub smalls_octets : {l : Measured} {g : Got ℕ} → (form.v ≡ 0 → ⊥) → Measures s form.c l → Worth s l.c (l.count * 8) g → Smalls s c g
   smalls_octets h x w = record { then = λ k r. begun k (reads_set form.v (Behind s 6 k) (octets_form k) h (x.then (λ n u p. pull (bit_of s) u p (n * 8) (λ v. k (word v) u (p + n * 8))) (w.then k r))) }
 
 ---------------------------------------------------------------- formats
 
 module _ {s : List ℕ} {c d : Cursor} where
   -- the caller marks, and reads the number
-  pub takes_small : (m t : ℕ) {g : Got} → d ≡ marked c (mark m) → Smalls s d g → Takes (small m t) s c g.c (λ n. rec t n g.v 0 d.at ∷ [])
+  pub takes_small : (m t : ℕ) {g : Got ℕ} → d ≡ marked c (mark m) → Smalls s d g → Takes (small m t) s c g.c (λ n. rec t n g.v 0 d.at ∷ [])
   unfolding read small_then
   takes_small m t {g} q x = record { took = λ y. reads_mark (mark m) _ q (reads_same (λ u p. small_then (bit_of s) u p (λ v q. ok q (rec t y.0 v 0 d.at ∷ []) 0)) _ refl (x.then (λ v u p. ok p (rec t y.0 v 0 d.at ∷ []) 0) (reads_ok _ 0 (marked-nil g.c)))) }
 

@@ -16,7 +16,7 @@ pub record Passes (c : Cursor) (n : ℕ) (r : Cursor) : Type 0 where
   pub moved : r.why ≡ 0 → r.at ≡ c.at + n
 
 -- n bits, of which something is known where they were not there too
-pub record Known (s : List ℕ) (c : Cursor) (n : ℕ) (g : Got) : Type 0 where
+pub record Known (s : List ℕ) (c : Cursor) (n : ℕ) (g : Got ℕ) : Type 0 where
   pub pulls : Pulls s c n g
   pub below : Inside s c → g.v < 2 ^ n
   pub there : 1 ≤ g.v → g.c.why ≡ 0
@@ -55,12 +55,12 @@ pub record Measures (s : List ℕ) (c : Cursor) (r : Measured) : Type 0 where
 ---------------------------------------------------------------- the normally small number
 
 -- n bits as a word
-pub record Worth (s : List ℕ) (c : Cursor) (n : ℕ) (g : Got) : Type 0 where
+pub record Worth (s : List ℕ) (c : Cursor) (n : ℕ) (g : Got ℕ) : Type 0 where
   pub then : (k : ℕ → ℕ → ℕ → Ans) {d : Cursor} {R : List Rec} → Reads (λ u p. k g.v u p) s g.c d R → Reads (λ u p. pull (bit_of s) u p n (λ v. k (word v) u (p + n))) s c d R
 
 -- the reading of a normally small number behind its mark, with what follows it
 unfoldable pub small_then : (ℕ → ℕ) → ℕ → ℕ → (ℕ → ℕ → Ans) → Ans
 small_then b e at k = pull b e at 1 λ y. fork y (pull b e (at + 1) 6 λ v. k v (at + 7)) (length_then b e (at + 1) λ n q. pull b e q (n * 8) λ v. k (word v) (q + n * 8))
 
-pub record Smalls (s : List ℕ) (c : Cursor) (g : Got) : Type 0 where
+pub record Smalls (s : List ℕ) (c : Cursor) (g : Got ℕ) : Type 0 where
   pub then : (k : ℕ → ℕ → ℕ → Ans) {d : Cursor} {R : List Rec} → Reads (λ u p. k g.v u p) s g.c d R → Reads (λ u p. small_then (bit_of s) u p (λ v q. k v u q)) s c d R

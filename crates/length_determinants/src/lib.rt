@@ -24,7 +24,7 @@ enum Head {
 }
 
 // The next n bits as a number, 0 where they are not there.
-fn known(s: &[u8], c: Cursor, n: usize) -> Got
+fn known(s: &[u8], c: Cursor, n: usize) -> Got<u64>
     requires { n ≤ 64 }
     ensures { Known s.now c n result }
 {
@@ -156,7 +156,7 @@ pub fn pass(c: Cursor, n: Bits) -> Cursor
 }
 
 // The number of so many octets, as a word: only the last eight count, and the others are not looked at.
-fn last_eight(s: &[u8], c: Cursor, n: Octets) -> Got
+fn last_eight(s: &[u8], c: Cursor, n: Octets) -> Got<u64>
     requires { n.0 * 8 < 2 ^ 56 }
     ensures { Worth s.now c (n.0 * 8) result }
 {
@@ -183,7 +183,7 @@ fn last_eight(s: &[u8], c: Cursor, n: Octets) -> Got
 }
 
 // A normally small number: 0 and 6 bits, or 1, a length and so many octets. Its mark is the caller's, before it.
-pub fn small(s: &[u8], c: Cursor) -> Got
+pub fn small(s: &[u8], c: Cursor) -> Got<u64>
     requires { length s.now ≤ 65536 }
     ensures { Smalls s.now c result }
 {

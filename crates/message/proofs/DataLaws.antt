@@ -46,7 +46,7 @@ module _ (has : ℕ) {s : List ℕ} {c : Cursor} {n : ℕ} {w : List ℕ} where
   constrained_some z x = runs_set absent (there s) has z x
 
 -- the elements behind their count
-module _ (table : List ℕ) {s : List ℕ} {c : Cursor} {g z : Got} {n : ℕ} {w : List ℕ} (opens : Opens s c 1 g) (size : Sized rows.elements s g.c z) where
+module _ (table : List ℕ) {s : List ℕ} {c : Cursor} {g z : Got ℕ} {n : ℕ} {w : List ℕ} (opens : Opens s c 1 g) (size : Sized rows.elements s g.c z) where
   counted : {a : ℕ} {w₁ : List ℕ} {r : At} → Runs a (elements_at table 1 z.v s) s z.c n w w₁ r → Runs a (λ u p. read (many 1 5 (element_format table)) (0, 0) (bit_of s) u p) s g.c n w w₁ r
   unfolding read elements_at lowest highest
   counted y = runs_sized 54 (λ k u p. elements_at table 1 k s u p) size y
@@ -70,7 +70,7 @@ module _ (table : List ℕ) {s : List ℕ} {c : Cursor} {g z : Got} {n : ℕ} {w
 
 ---------------------------------------------------------------- the message
 
-module _ (table : List ℕ) {s : List ℕ} {c : Cursor} {g : Got} {n : ℕ} {w w₁ w₂ w₃ w₄ w₅ : List ℕ} {r₁ r₂ r₃ r₄ r₅ : At} {b : ℕ} (opens : Opens s c 2 g) where
+module _ (table : List ℕ) {s : List ℕ} {c : Cursor} {g : Got ℕ} {n : ℕ} {w w₁ w₂ w₃ w₄ w₅ : List ℕ} {r₁ r₂ r₃ r₄ r₅ : At} {b : ℕ} (opens : Opens s c 2 g) where
   pub message-read : Runs 1 (number_field rows.msg_id 9 s) s g.c n w w₁ r₁ → Runs 1 (maybe_number_field (g.v / 2 % 2) rows.msg_id 10 s) s r₁.c r₁.n w₁ w₂ r₂ → Runs 6 (date_time_field s) s r₂.c r₂.n w₂ w₃ r₃
       → Runs 1 (acknowledgment_field (g.v % 2) s) s r₃.c r₃.n w₃ w₄ r₄ → Runs b (data_at table s) s r₄.c r₄.n w₄ w₅ r₅ → Runs (1 + (1 + (6 + (1 + b)))) (message_at table s) s c n w w₅ r₅
   unfolding message_at number_field maybe_number_field date_time_field acknowledgment_field data_at lowest highest tame tame_fields flags all_read

@@ -77,14 +77,14 @@ module _ (table s : List ℕ) (p e m n : ℕ) where
   abbrev start : Cursor
   start = record { at = p; end = e; why = 0; marks = m }
 
-  abbrev flag : Got
+  abbrev flag : Got ℕ
   flag = record { v = uint (bit_of s) p 1; c = put start (p + 1) 0 m }
 
-  abbrev number_of : Got
+  abbrev number_of : Got ℕ
   number_of = record { v = uint (bit_of s) (p + 1) 3; c = put start (p + 1 + 3) 0 m }
 
   -- the elements behind their number, and then nothing more
-  behind-count : {z : Got} → p + 4 ≤ e → Sized 54 s flag.c z → Fails (z.v * 143) (elements_at table 1 z.v s) s z.c n → Fails 236050 (data_at table s) s start n
+  behind-count : {z : Got ℕ} → p + 4 ≤ e → Sized 54 s flag.c z → Fails (z.v * 143) (elements_at table 1 z.v s) s z.c n → Fails 236050 (data_at table s) s start n
   behind-count l y x =
       let o : Opens s start 1 flag = record { gave = λ _. opened refl (omega arith) refl refl } in
       record {

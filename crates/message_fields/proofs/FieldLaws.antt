@@ -20,7 +20,7 @@ use Rattle.date_times.specs.declared.DateTimeAt.{DateTimeAt}
 use Rattle.date_times.specs.Times.{DateTimes, date_time_recs}
 use Rattle.message_fields.specs.Fields.{number_field, maybe_number_field, date_time_field, acknowledgment_field}
 
-module _ (row t : ℕ) {s : List ℕ} {c : Cursor} {g : Got} (h : Ranged row s c g) where
+module _ (row t : ℕ) {s : List ℕ} {c : Cursor} {g : Got ℕ} (h : Ranged row s c g) where
   pub number-told : {n m : ℕ} {w w' : List ℕ} → g.c.why ≡ 0 → Told 1 w w' n m (rec t 0 g.v 0 c.at ∷ []) → Runs 1 (number_field row t s) s c n w w' (record { n = m; c = g.c })
   unfolding number_field
   number-told z y = runs_told (number_field row t s) ((h.number t).took (0, 0)) z y

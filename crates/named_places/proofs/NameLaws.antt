@@ -30,7 +30,7 @@ held_none = record { few = omega arith; there = record { there = omega arith; fi
 
 ---------------------------------------------------------------- one presence bit, and what it is of last
 
-module _ {s : List ℕ} {c d e : Cursor} {f : Fmt} {T : ℕ → List Rec} (g : Got) (o : Opens s c 1 g) (x : Takes f s g.c d T) where
+module _ {s : List ℕ} {c d e : Cursor} {f : Fmt} {T : ℕ → List Rec} (g : Got ℕ) (o : Opens s c 1 g) (x : Takes f s g.c d T) where
   pub takes_then_maybe : {h : Fmt} {U : ℕ → List Rec} → Maybe (g.v % 2) h s d e U → Takes (seq (f ⨾ h ⨾? end)) s c e (λ n. T n ++ U n)
   unfolding flags all_read
   takes_then_maybe y =
@@ -46,7 +46,7 @@ module _ {s : List ℕ} {c d e : Cursor} {f : Fmt} {T : ℕ → List Rec} (g : G
 
 ---------------------------------------------------------------- a choice of two
 
-module _ (t : ℕ) (f h : Fmt) {s : List ℕ} {c d : Cursor} {T : ℕ → List Rec} (g : Got) (p : Pulls s c 1 g) where
+module _ (t : ℕ) (f h : Fmt) {s : List ℕ} {c d : Cursor} {T : ℕ → List Rec} (g : Got ℕ) (p : Pulls s c 1 g) where
   pub takes_first : g.v ≡ 0 → Takes f s g.c d T → Takes (choice t (f ∥ h ∥ none_left)) s c d (λ n. rec t n 0 0 c.at ∷ T n)
   unfolding read_choice width width_in encoding.highest count
   takes_first z x = takes_index t (f ∥ h ∥ none_left) 0 f g p z (λ _ u q. refl) x

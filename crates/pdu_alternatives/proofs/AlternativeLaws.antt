@@ -28,7 +28,7 @@ use Rattle.forward.specs.Forward.{forward_at}
 use Rattle.pdu_parts.specs.Parts.{reason_at}
 use Rattle.pdu_alternatives.specs.Alternatives.{start_at, alternatives, alternative_at}
 
-module _ (down : List ℕ) {s : List ℕ} {c : Cursor} {g : Got} {n : ℕ} {w w₁ w₂ : List ℕ} {r t : At} (opens : Opens s c 1 g) where
+module _ (down : List ℕ) {s : List ℕ} {c : Cursor} {g : Got ℕ} {n : ℕ} {w w₁ w₂ : List ℕ} {r t : At} (opens : Opens s c 1 g) where
   pub start-read : {b : ℕ} → Runs 1 (maybe_number_field (g.v % 2) rows.side 7 s) s g.c n w w₁ r → Runs b (protected down s) s r.c r.n w₁ w₂ t → Runs (1 + b) (start_at down s) s c n w w₂ t
   unfolding start_at maybe_number_field number_field protected lowest highest tame flags all_read
   start-read x y =

@@ -19,7 +19,7 @@ use Rattle.runs.proofs.RunLaws.{runs_told, runs_untold, runs_within}
 use Rattle.pdu_parts.specs.Parts.{extension_at}
 
 -- the index of an alternative behind the extension bit
-module _ {s : List ℕ} {c d : Cursor} {g : Got} {n m : ℕ} {w w₁ : List ℕ} (goes : c.why ≡ 0) (t : Told 1 w w₁ n m (rec 2 0 0 1 c.at ∷ [])) (q : d ≡ marked c 2) (h : Smalls s d g) where
+module _ {s : List ℕ} {c d : Cursor} {g : Got ℕ} {n m : ℕ} {w w₁ : List ℕ} (goes : c.why ≡ 0) (t : Told 1 w w₁ n m (rec 2 0 0 1 c.at ∷ [])) (q : d ≡ marked c 2) (h : Smalls s d g) where
   pub extension_untold : (g.c.why ≡ 0 → ⊥) → Runs 2 (extension_at s) s c n w w₁ (record { n = m; c = g.c })
   unfolding extension_at mark
   extension_untold z =

@@ -58,7 +58,7 @@ unfolding index_bits width width_in encoding.highest count
 index_is zero down up = refl
 index_is (suc d) down up = refl
 
-module _ (d : ℕ) (down up : List ℕ) {s : List ℕ} {c : Cursor} {n m : ℕ} {w w₁ : List ℕ} {x : Got} (one : d ≤ 1) (goes : c.why ≡ 0) (t : Told 1 w w₁ n m (rec 1 0 d 0 c.at ∷ [])) (bit : Pulls s c 1 x) where
+module _ (d : ℕ) (down up : List ℕ) {s : List ℕ} {c : Cursor} {n m : ℕ} {w w₁ : List ℕ} {x : Got ℕ} (one : d ≤ 1) (goes : c.why ≡ 0) (t : Told 1 w w₁ n m (rec 1 0 d 0 c.at ∷ [])) (bit : Pulls s c 1 x) where
   behind-direction : {b : ℕ} {w₂ : List ℕ} {r : At} → Runs b (λ u p. read (ext (choice tag.pdu (alternatives d down up)) extension_alternative) (0, 0) (bit_of s) u p) s c m w₁ w₂ r → Runs (1 + b) (pdu_at d down up s) s c n w w₂ r
   unfolding pdu_at
   behind-direction y =
@@ -69,7 +69,7 @@ module _ (d : ℕ) (down up : List ℕ) {s : List ℕ} {c : Cursor} {n m : ℕ} 
   unfolding extension_at
   pdu-extended h q y = behind-direction (runs_extended (0, 0) (choice tag.pdu (alternatives d down up)) extension_alternative x bit h q y)
 
-  module _ {b : ℕ} {g : Got} (z : x.v ≡ 0) (e : b ≡ index_bits d) (index : Pulls s x.c b g) where
+  module _ {b : ℕ} {g : Got ℕ} (z : x.v ≡ 0) (e : b ≡ index_bits d) (index : Pulls s x.c b g) where
     wide : Pulls s x.c (width (encoding.highest (alternatives_of (alternatives d down up)))) g
     wide = rw (e ∙ index_is d down up) at index
 

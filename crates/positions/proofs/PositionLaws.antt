@@ -27,7 +27,7 @@ use Rattle.named_places.proofs.NameLaws.{held-text}
 abbrev alts : Alts
 alts = message.named 31 5 ∥ message.named 32 4 ∥ message.ia5 33 4 4 ∥ message.latlon ∥ message.unlisted ∥ none_left
 
-module _ {s : List ℕ} {c : Cursor} (g : Got) (p : Pulls s c 3 g) where
+module _ {s : List ℕ} {c : Cursor} (g : Got ℕ) (p : Pulls s c 3 g) where
   pub position-fix : g.v ≡ 0 → (r : NamedAt) → NamedPlaces rows.fix_size s g.c r → Positions s c (record { position = Fix c.at r.named; c = r.c })
   unfolding read_choice width width_in encoding.highest count lowest highest
   position-fix z r h = record { reads = takes_index 30 alts 0 _ g p z (λ x u q. refl) (h.reads 31); held = h.held }

@@ -25,7 +25,7 @@ use Rattle.positions.specs.Positions.{Flagged, shut_already, ran_short, flagged,
 
 ---------------------------------------------------------------- one presence bit
 
-module _ {s : List ℕ} {c : Cursor} (g : Got) (p : Pulls s c 1 g) where
+module _ {s : List ℕ} {c : Cursor} (g : Got ℕ) (p : Pulls s c 1 g) where
   pub flag_clear : g.v ≡ 0 → Flags s c g
   unfolding unread_mark
   flag_clear z = record { gave = λ i. go i (p.gave i) }
@@ -113,18 +113,18 @@ absorbed : (m x y : ℕ) → or x x ≡ x → or (or m (or x y)) x ≡ or m (or 
 absorbed m x y h = or_assoc m (or x y) x ∙ ap (or m) (or_commutes (or x y) x ∙ sym (or_assoc x x y) ∙ ap (λ (j : ℕ). or j y) h)
 
 -- what two bits gave
-data Both (s : List ℕ) (c : Cursor) (a b : Got) : Type 0 where
+data Both (s : List ℕ) (c : Cursor) (a b : Got ℕ) : Type 0 where
   stopped-before : (c.why ≡ 0 → ⊥) → b.c ≡ c → Both s c a b
   none_there : c.why ≡ 0 → c.end ≡ c.at → b.c ≡ put c c.at (number (out 1)) c.marks → Both s c a b
   one_there : c.why ≡ 0 → c.end ≡ c.at + 1 → b.c ≡ put c c.end (number (out 1)) (or c.marks (unread_mark (bit_of s c.at))) → Both s c a b
   both_there : c.why ≡ 0 → c.at + 2 ≤ c.end → a.v ≡ bit_of s c.at → b.v ≡ bit_of s (suc c.at) → b.c ≡ put c (c.at + 2) 0 (or c.marks (two_marks (bit_of s) c.at)) → Both s c a b
 
-flag_inside : {s : List ℕ} {c : Cursor} {a : Got} → Inside s c → Flagged s c a → Inside s a.c
+flag_inside : {s : List ℕ} {c : Cursor} {a : Got ℕ} → Inside s c → Flagged s c a → Inside s a.c
 flag_inside i (shut_already h q) = rw q i
 flag_inside i (ran_short h l q) = rw q i
 flag_inside i (flagged h l v q) = rw q (l, i.1)
 
-module _ {s : List ℕ} {c : Cursor} {a b : Got} where
+module _ {s : List ℕ} {c : Cursor} {a b : Got ℕ} where
   both : Inside s c → Flagged s c a → Flagged s a.c b → Both s c a b
   both i (shut_already h q) (shut_already k r) = stopped-before h (r ∙ q)
   both i (shut_already h q) (ran_short k l r) = absurd (h (rw q at k))
@@ -204,7 +204,7 @@ module _ {s : List ℕ} {c : Cursor} {a b : Got} where
           (sym (fetch_go (bit_of s) c.end c.at (flags fs) _ _ (omega arith) ∙ rw (m, n)))
           ((reads_then {c = behind} (λ u p. ok p [] marks) (λ u p. read_fields fs x (bit_of s) u c.at p) (reads_ok {c = behind} [] marks q) k).led (l, i.1))
 
-module _ {f h : Fmt} (t u : ℕ) {s : List ℕ} {c d e : Cursor} {a b : Got} {T U : ℕ → List Rec} where
+module _ {f h : Fmt} (t u : ℕ) {s : List ℕ} {c d e : Cursor} {a b : Got ℕ} {T U : ℕ → List Rec} where
   pub takes_unread : Flags s c a → Flags s a.c b → Takes f s b.c d T → Takes h s d e U
       → Takes (seq (f ⨾ h ⨾ unread t (unread u end))) s c e (λ n. T n ++ (U n ++ (note_recs t a.v e.at n ++ note_recs u b.v e.at n)))
   unfolding flags unread_marks

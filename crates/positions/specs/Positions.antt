@@ -51,12 +51,12 @@ pub record Positions (s : List ℕ) (c : Cursor) (r : PositionAt) : Type 0 where
   pub held : HeldPosition s r.position
 
 -- What the presence bit of a part that is not read gave: nothing behind a failure; ran out without moving; or the bit, with its mark.
-pub data Flagged (s : List ℕ) (c : Cursor) (g : Got) : Type 0 where
+pub data Flagged (s : List ℕ) (c : Cursor) (g : Got ℕ) : Type 0 where
   shut_already : (c.why ≡ 0 → ⊥) → g.c ≡ c → Flagged s c g
   ran_short : c.why ≡ 0 → c.end < c.at + 1 → g.c ≡ put c c.at (number (out 1)) c.marks → Flagged s c g
   flagged : c.why ≡ 0 → c.at + 1 ≤ c.end → g.v ≡ bit_of s c.at → g.c ≡ put c (c.at + 1) 0 (or c.marks (unread_mark g.v)) → Flagged s c g
 
-pub record Flags (s : List ℕ) (c : Cursor) (g : Got) : Type 0 where
+pub record Flags (s : List ℕ) (c : Cursor) (g : Got ℕ) : Type 0 where
   pub gave : Inside s c → Flagged s c g
 
 pub record Departures (s : List ℕ) (c : Cursor) (r : DepartureAt) : Type 0 where

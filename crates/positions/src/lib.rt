@@ -97,7 +97,7 @@ pub fn read_position(s: &[u8], c: Cursor) -> PositionAt
 }
 
 // The presence bit of a part that is not read. A set one is mark 4 at once, even where nothing more can be read.
-fn read_flag(s: &[u8], c: Cursor) -> Got
+fn read_flag(s: &[u8], c: Cursor) -> Got<u64>
     ensures { Flags s.now c result }
 {
     let flag = bits(s, c, 1);

@@ -72,14 +72,14 @@ behind table = or_note tag.empty 1 0 (inner (atc_message table)) (checked ⨾ en
 abbrev body : List ℕ → Fmt
 body table = seq (skipped 4 ⨾? behind table)
 
-module _ (table : List ℕ) {s : List ℕ} {c : Cursor} {g : Got} {n : ℕ} {w : List ℕ} (pulls : Pulls s c 1 g) where
+module _ (table : List ℕ) {s : List ℕ} {c : Cursor} {g : Got ℕ} {n : ℕ} {w : List ℕ} (pulls : Pulls s c 1 g) where
   -- "extension bit (set: 5)"
   pub protected-extended : {b : ℕ} {d e : Cursor} → (g.v ≡ 0 → ⊥) → d ≡ marked g.c 2 → e ≡ stopped d 5 0 → Runs b (protected table s) s c n w w (record { n = n; c = e })
   unfolding protected
   protected-extended {b} {d} h q x =
       runs_within b (protected table s) (omega arith) (runs_extended (0, 0) (body table) no_reader g pulls h q (runs_silent (λ u p. read no_reader (0, 0) (bit_of s) u p) ((takes_refuse {T = λ _. []} bad 0 (λ z. omega arith) x).took (0, 0))))
 
-  pub protected-read : {b : ℕ} {o : Got} {a : Cursor} {w₁ w₂ : List ℕ} {r t : At} → g.v ≡ 0 → Opens s g.c 2 o → Reads (algorithm (o.v / 2 % 2) s) s o.c a []
+  pub protected-read : {b : ℕ} {o : Got ℕ} {a : Cursor} {w₁ w₂ : List ℕ} {r t : At} → g.v ≡ 0 → Opens s g.c 2 o → Reads (algorithm (o.v / 2 % 2) s) s o.c a []
       → Runs b (message_part (o.v % 2) table s) s a n w w₁ r → Runs 1 (integrity s) s r.c r.n w₁ w₂ t → Runs (b + 1) (protected table s) s c n w w₂ t
   unfolding protected algorithm message_part inner_at integrity tame flags all_read
   protected-read {o = o} {a} {r = r} z opens x₀ x₁ x₂ =

@@ -28,7 +28,7 @@ pub fn small_number(label: &[u8], frame: &[u8], c: Cursor) -> Cursor {
     shown(label, small(frame, c))
 }
 
-fn shown(label: &[u8], g: Got) -> Cursor {
+fn shown(label: &[u8], g: Got<u64>) -> Cursor {
     let d = g.c;
     told(label, g.v, d.why);
     d

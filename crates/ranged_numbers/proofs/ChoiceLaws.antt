@@ -13,7 +13,7 @@ use Rattle.cursor.proofs.Laws.{reads_same, reads_stop, reads_stop_with, pull-fro
 use Rattle.cursor.proofs.FormatLaws.{takes_choice}
 
 -- the index i, and its alternative f
-pub takes_index : (t : ℕ) (fs : Alts) (i : ℕ) (f : Fmt) {s : List ℕ} {c d : Cursor} {T : ℕ → List Rec} (g : Got) → Pulls s c (width (last (alternatives_of fs))) g → g.v ≡ i
+pub takes_index : (t : ℕ) (fs : Alts) (i : ℕ) (f : Fmt) {s : List ℕ} {c d : Cursor} {T : ℕ → List Rec} (g : Got ℕ) → Pulls s c (width (last (alternatives_of fs))) g → g.v ≡ i
     → ((x : Ctx) (u q : ℕ) → read_choice fs i x (bit_of s) u q ≡ read f x (bit_of s) u q) → Takes f s g.c d T → Takes (choice t fs) s c d (λ n. rec t n i 0 c.at ∷ T n)
 takes_index t fs i f {s} {c} {d} {T} g p z e h =
     let y : Takes (choice t fs) s c d (λ n. rec t n g.v 0 c.at ∷ T n) =
@@ -23,7 +23,7 @@ takes_index t fs i f {s} {c} {d} {T} g p z e h =
     rw z at y
 
 -- an index that is not listed: badly formed, mark 1
-pub takes_unlisted : (t : ℕ) (fs : Alts) {s : List ℕ} {c d : Cursor} {T : ℕ → List Rec} (g : Got) → Pulls s c (width (last (alternatives_of fs))) g
+pub takes_unlisted : (t : ℕ) (fs : Alts) {s : List ℕ} {c d : Cursor} {T : ℕ → List Rec} (g : Got ℕ) → Pulls s c (width (last (alternatives_of fs))) g
     → ((x : Ctx) (u q : ℕ) → read_choice fs g.v x (bit_of s) u q ≡ stop bad q [] 1) → d ≡ stopped g.c 5 1 → Takes (choice t fs) s c d T
 unfolding read then glue or
 takes_unlisted t fs {s} {c} {d} {T} g p e q =
@@ -46,15 +46,15 @@ unfolding read_choice
 beyond_rows t k zero i fs x b e p = ap (λ (j : ℕ). read_choice fs j x b e p) (omega arith)
 beyond_rows t k (suc n) i fs x b e p = ap (λ (j : ℕ). read_choice (rows_then t k (suc n) fs) j x b e p) (suc-add n i) ∙ beyond_rows t (suc k) n i fs x b e p
 
-module _ (tag t k n : ℕ) (fs : Alts) {s : List ℕ} {c : Cursor} (g : Got) (pulls : Pulls s c (width (last (alternatives_of (rows_then t k n fs)))) g) where
-  pub takes_row : (r : Got) → g.v < n → Ranged (k + g.v) s g.c r → Takes (choice tag (rows_then t k n fs)) s c r.c (λ m. rec tag m g.v 0 c.at ∷ rec t m r.v 0 g.c.at ∷ [])
+module _ (tag t k n : ℕ) (fs : Alts) {s : List ℕ} {c : Cursor} (g : Got ℕ) (pulls : Pulls s c (width (last (alternatives_of (rows_then t k n fs)))) g) where
+  pub takes_row : (r : Got ℕ) → g.v < n → Ranged (k + g.v) s g.c r → Takes (choice tag (rows_then t k n fs)) s c r.c (λ m. rec tag m g.v 0 c.at ∷ rec t m r.v 0 g.c.at ∷ [])
   takes_row r l h =
       takes_choice tag (rows_then t k n fs) g pulls λ x.
       reads_same (λ u p. read (num t (lowest (k + g.v)) (highest (k + g.v))) x (bit_of s) u p) (λ u p. read_choice (rows_then t k n fs) g.v x (bit_of s) u p)
       (sym (row_read t k n g.v fs x (bit_of s) g.c.end g.c.at l)) ((h.number t).took x)
 
 -- behind all rows nothing is listed
-pub takes_no_row : (tag t k n : ℕ) {s : List ℕ} {c d : Cursor} {T : ℕ → List Rec} (g : Got) → Pulls s c (width (last (alternatives_of (rows_then t k n none_left)))) g → n ≤ g.v → d ≡ stopped g.c 5 1
+pub takes_no_row : (tag t k n : ℕ) {s : List ℕ} {c d : Cursor} {T : ℕ → List Rec} (g : Got ℕ) → Pulls s c (width (last (alternatives_of (rows_then t k n none_left)))) g → n ≤ g.v → d ≡ stopped g.c 5 1
     → Takes (choice tag (rows_then t k n none_left)) s c d (λ m. rec tag m g.v 0 c.at ∷ T m)
 unfolding read_choice mark
 takes_no_row tag t k n {s} {c} {d} {T} g pulls l q =

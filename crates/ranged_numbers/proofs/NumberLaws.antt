@@ -23,7 +23,7 @@ pub above-extent : {d top v : ℕ} → top ≡ d → top < v → over d v ≡ 1
 unfolding over unless mark
 above-extent {d} {top} {v} z l = rw (lt-leb v d (rw z at l))
 
-module _ {s : List ℕ} {c d : Cursor} (g : Got) where
+module _ {s : List ℕ} {c d : Cursor} (g : Got ℕ) where
   takes_num : (t lo hi : ℕ) → Pulls s c (width (extent lo hi)) g → d ≡ marked g.c (over (extent lo hi) g.v) → Takes (num t lo hi) s c d (λ n. rec t n (word (lo + g.v)) 0 c.at ∷ [])
   unfolding read
   takes_num t lo hi p q = record { took = λ x. pull-from (width (extent lo hi)) g (λ a v u z. ok z (rec t x.0 (word (lo + v)) 0 a ∷ []) (over (extent lo hi) v)) p (reads_ok _ _ q) }
@@ -46,9 +46,9 @@ module _ {s : List ℕ} {c d : Cursor} (g : Got) where
             (rw (lt-leb g.v (extent 0 hi) l) (reads_stop bad (mark 1) (λ z. omega arith) q));
       }
 
-module _ {r : Range} (listed : Listed r) {s : List ℕ} {c : Cursor} (g : Got) (p : Pulls s c (width_of r) g) where
+module _ {r : Range} (listed : Listed r) {s : List ℕ} {c : Cursor} (g : Got ℕ) (p : Pulls s c (width_of r) g) where
   -- and what was told of it
-  pub ranged-told : {t : Got} → FromLowest r g.c g.v t → Ranged r.row s c t
+  pub ranged-told : {t : Got ℕ} → FromLowest r g.c g.v t → Ranged r.row s c t
   ranged-told {t} h =
       record { number = λ n. rw (lowest_of listed, highest_of listed, h.number) (takes_num g n r.lo r.hi p h.marks) }
 

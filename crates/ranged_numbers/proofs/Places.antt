@@ -29,7 +29,7 @@ pub record Behind (c : Cursor) (n : ℕ) (d : Cursor) : Type 0 where
   pub to : d.at ≡ c.at + n
   pub same : d.end ≡ c.end
 
-module _ {s : List ℕ} {c : Cursor} {g : Got} (k : ℕ) (r : Ranged k s c g) (i : Inside s c) where
+module _ {s : List ℕ} {c : Cursor} {g : Got ℕ} (k : ℕ) (r : Ranged k s c g) (i : Inside s c) where
   number-inside : Inside s g.c
   number-inside = led_inside _ s c g.c (((r.number 0).took (0, 0)).led i) i
 
@@ -55,10 +55,10 @@ pub record Along (s : List ℕ) (c : Cursor) (n : ℕ) (d : Cursor) : Type 0 whe
 pub along_here : {s : List ℕ} {c : Cursor} → Along s c 0 c
 along_here = record { inside = λ i. i; there = λ i z. record { going = z; to = omega arith; same = refl } }
 
-pub pull_along : {s : List ℕ} {c : Cursor} {n : ℕ} {g : Got} → Pulls s c n g → Along s c n g.c
+pub pull_along : {s : List ℕ} {c : Cursor} {n : ℕ} {g : Got ℕ} → Pulls s c n g → Along s c n g.c
 pull_along {s} {c} {n} {g} p = record { inside = λ i. pulled_inside s c n g i (p.gave i); there = λ i z. let w = pull_went p z i in record { going = rw w.from; to = rw w.to; same = rw w.to } }
 
-module _ {s : List ℕ} {c d : Cursor} {n : ℕ} {g : Got} (k : ℕ) (a : Along s c n d) (r : Ranged k s d g) where
+module _ {s : List ℕ} {c d : Cursor} {n : ℕ} {g : Got ℕ} (k : ℕ) (a : Along s c n d) (r : Ranged k s d g) where
   -- the reading goes on behind the number, so it did before
   pub number_back : Inside s c → g.c.why ≡ 0 → d.why ≡ 0
   number_back i z = (number_behind k r (a.inside i) z).going

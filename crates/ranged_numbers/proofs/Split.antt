@@ -29,12 +29,12 @@ module _ {s : List ℕ} {e p v : ℕ} (m n : ℕ) (h : Stands s e p (m + n) v) w
   stands_last = record { room = omega (arith, h.room); spelt = rw (h.spelt, uint-split (bit_of s) p m n) (low (uint (bit_of s) p m) n (uint-below s (p + m) n)) }
 
 -- a pull behind which the reading goes on
-pub record Went (s : List ℕ) (c : Cursor) (n : ℕ) (g : Got) : Type 0 where
+pub record Went (s : List ℕ) (c : Cursor) (n : ℕ) (g : Got ℕ) : Type 0 where
   pub from : c ≡ put c c.at 0 c.marks
   pub to : g.c ≡ put c (c.at + n) 0 c.marks
   pub stands : Stands s c.end c.at n g.v
 
-pub pull_went : {s : List ℕ} {c : Cursor} {n : ℕ} {g : Got} → Pulls s c n g → g.c.why ≡ 0 → Inside s c → Went s c n g
+pub pull_went : {s : List ℕ} {c : Cursor} {n : ℕ} {g : Got ℕ} → Pulls s c n g → g.c.why ≡ 0 → Inside s c → Went s c n g
 pull_went {s} {c} {n} {g} p z i = go (p.gave i)
   where
     go : Pulled s c n g → Went s c n g
@@ -45,12 +45,12 @@ pull_went {s} {c} {n} {g} p z i = go (p.gave i)
 ---------------------------------------------------------------- numbers of them
 
 -- A number is told by a cursor b that is further on: that one stays, and has mark 1 more or not.
-pub told_at_lem : {b : Cursor} (c : Cursor) {p m v : ℕ} {r : Range} {g : Got} → b ≡ put c p 0 m → FromLowest r b v g → g.c ≡ put c p 0 (or m (over (extent r.lo r.hi) v))
+pub told_at_lem : {b : Cursor} (c : Cursor) {p m v : ℕ} {r : Range} {g : Got ℕ} → b ≡ put c p 0 m → FromLowest r b v g → g.c ≡ put c p 0 (or m (over (extent r.lo r.hi) v))
 unfolding marked stopped
 told_at_lem c e t = t.marks ∙ rw e
 
 -- It is the number that is read from d, which has the same marks, up to q, if its bits stand there.
-pub ranged_at : {s : List ℕ} {b d : Cursor} (c : Cursor) {p m v : ℕ} {r : Range} {g : Got} (q : ℕ) → d ≡ put c p 0 m → Listed r → FromLowest r b v g → Stands s c.end p (width_of r) v → p + width_of r ≡ q
+pub ranged_at : {s : List ℕ} {b d : Cursor} (c : Cursor) {p m v : ℕ} {r : Range} {g : Got ℕ} (q : ℕ) → d ≡ put c p 0 m → Listed r → FromLowest r b v g → Stands s c.end p (width_of r) v → p + width_of r ≡ q
     → Ranged r.row s d (record { v = g.v; c = put c q 0 (or m (over (extent r.lo r.hi) v)) })
 unfolding marked stopped
 ranged_at c {p} {m} {v} {r} q e l t h z =

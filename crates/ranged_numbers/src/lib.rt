@@ -9,7 +9,7 @@ use cursor::place::{Cursor, Got, bits, mark, stop};
 use field_ranges::table::Range;
 
 // A number of the range, by how much it is above its lowest, where its bits end at c. Above the range it is told all the same, with mark 1.
-pub fn from_lowest(c: Cursor, above: u64, range: Range) -> Got
+pub fn from_lowest(c: Cursor, above: u64, range: Range) -> Got<u64>
     ensures { FromLowest range c above result }
 {
     let v = std::num::wrapping_add_u64(range.lo, above);
@@ -25,7 +25,7 @@ pub fn from_lowest(c: Cursor, above: u64, range: Range) -> Got
 }
 
 // The next number of the range.
-pub fn ranged(s: &[u8], c: Cursor, range: Range) -> Got
+pub fn ranged(s: &[u8], c: Cursor, range: Range) -> Got<u64>
     requires { Listed range }
     ensures { Ranged range.row s.now c result }
 {
@@ -34,7 +34,7 @@ pub fn ranged(s: &[u8], c: Cursor, range: Range) -> Got
 }
 
 // A name of the range, which begins at 0. Above it there is no name: badly formed, with mark 1.
-pub fn named(s: &[u8], c: Cursor, range: Range) -> Got
+pub fn named(s: &[u8], c: Cursor, range: Range) -> Got<u64>
     requires { Listed range × (range.lo ≡ 0) }
     ensures { Named range.row s.now c result }
 {

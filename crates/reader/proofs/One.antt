@@ -25,7 +25,7 @@ module _ (s : List ℕ) (c : Cursor) (n : ℕ) where
   lost : {d : Cursor} → d ≡ stopped c 4 0 → d.why ≡ 0 → ⊥
   lost = stopped_stops c 4 0 (λ z. omega arith)
 
-  module _ {g h : Got} (a : Took s c n g) (b : Took s c n h) where
+  module _ {g h : Got ℕ} (a : Took s c n g) (b : Took s c n h) where
     -- neither has a number
     neither : g.c ≡ h.c → (g.c.why ≡ 0 → ⊥) → g ≡ h
     neither q y = let v = a.none y ∙ sym (b.none (λ z. y (ap (λ (e : Cursor). e.why) q ∙ z))) in λ i. record { v = v i; c = q i }

@@ -17,10 +17,10 @@ module _ (s : List ℕ) (c : Cursor) (n : ℕ) where
   inside : {r : Bool} → c.at ≤ c.end → r ≡ leb c.end (length s * 8) → r ≡ true → Inside s c
   inside a h t = (a, leb-true c.end (length s * 8) (sym h ∙ t))
 
-  pub took_bits : {g : Got} {r : Bool} → Pulls s c n g → c.at ≤ c.end → r ≡ leb c.end (length s * 8) → r ≡ true → g.c.why ≡ 0 → Took s c n g
+  pub took_bits : {g : Got ℕ} {r : Bool} → Pulls s c n g → c.at ≤ c.end → r ≡ leb c.end (length s * 8) → r ≡ true → g.c.why ≡ 0 → Took s c n g
   took_bits p a h t z = record { pulls = p; none = λ y. absurd (y z); astray = λ y. absurd (y (inside a h t)) }
 
-  pub took_none : {g : Got} {r : Bool} → Pulls s c n g → c.at ≤ c.end → r ≡ leb c.end (length s * 8) → r ≡ true → (g.c.why ≡ 0 → ⊥) → Took s c n (record { v = 0; c = g.c })
+  pub took_none : {g : Got ℕ} {r : Bool} → Pulls s c n g → c.at ≤ c.end → r ≡ leb c.end (length s * 8) → r ≡ true → (g.c.why ≡ 0 → ⊥) → Took s c n (record { v = 0; c = g.c })
   took_none {g} p a h t z = record { pulls = record { gave = λ i. go (p.gave i) }; none = λ y. refl; astray = λ y. absurd (y (inside a h t)) }
     where
       go : Pulled s c n g → Pulled s c n (record { v = 0; c = g.c })

@@ -36,7 +36,7 @@ pub fn start(s: &[u8], at: usize) -> Cursor
 }
 
 // The next n bits as a number, and the cursor behind them. Where they are not there the number is 0.
-pub fn next(s: &[u8], c: Cursor, n: usize) -> Got
+pub fn next(s: &[u8], c: Cursor, n: usize) -> Got<u64>
     requires { n ≤ 64 }
     ensures { Took s.now c n result }
 {
@@ -86,7 +86,7 @@ impl<'a> Reader<'a> {
 }
 
 // n bits of a frame from a place on: the number, and where the reading stands behind them. A plain slice and numbers, for every other caller.
-pub fn bits_at(frame: &[u8], at: usize, n: usize) -> Got
+pub fn bits_at(frame: &[u8], at: usize, n: usize) -> Got<u64>
     requires { n ≤ 64 }
     ensures { Took frame.now (opened frame.now at) n result }
 {

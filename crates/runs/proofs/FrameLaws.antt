@@ -40,7 +40,7 @@ chosen t fs x s a v u p = then (ok p (rec t x.0 v 0 a ∷ []) 0) λ q. read_choi
 module _ (x : Ctx) {s : List ℕ} {c : Cursor} {n : ℕ} {w : List ℕ} where
   ---------------------------------------------------------------- extension bits
 
-  module _ (f k : Fmt) (g : Got) (pulls : Pulls s c 1 g) where
+  module _ (f k : Fmt) (g : Got ℕ) (pulls : Pulls s c 1 g) where
     pub runs_root : {b : ℕ} {w' : List ℕ} {r : At} → g.v ≡ 0 → Runs b (λ u p. read f x (bit_of s) u p) s g.c n w w' r → Runs b (λ u p. read (ext f k) x (bit_of s) u p) s c n w w' r
     unfolding read
     runs_root z y = runs_pull 1 g (forks f k x s) pulls (runs_clear (λ u q. read f x (bit_of s) u q) (λ u q. then (ok q [] (mark 2)) λ r. read k x (bit_of s) u r) g.v z y)
@@ -61,7 +61,7 @@ module _ (x : Ctx) {s : List ℕ} {c : Cursor} {n : ℕ} {w : List ℕ} where
   unfolding read is_past
   runs_noted t v y f z told h = runs_then (λ u p. ok p (rec t x.0 v y p ∷ []) 0) (λ u p. read f x (bit_of s) u p) (λ u p. refl) (runs_told (λ u p. ok p (rec t x.0 v y p ∷ []) 0) (reads_here (λ p. rec t x.0 v y p ∷ []) 0 (marked-nil c)) z told) h
 
-  module _ (t : ℕ) (fs : Alts) (g : Got) (pulls : Pulls s c (width (highest (alternatives_of fs))) g) where
+  module _ (t : ℕ) (fs : Alts) (g : Got ℕ) (pulls : Pulls s c (width (highest (alternatives_of fs))) g) where
     pub runs_no_index : (g.c.why ≡ 0 → ⊥) → Runs 0 (λ u p. read (choice t fs) x (bit_of s) u p) s c n w w (record { n = n; c = g.c })
     unfolding read
     runs_no_index h = runs_from (width (highest (alternatives_of fs))) g (chosen t fs x s) pulls (runs_stayed (λ u p. chosen t fs x s c.at g.v u p) h)

@@ -215,7 +215,7 @@ ran_from {c} {e} {d} {p} {R} k l z q y (gave_up o j t p' m w a b x) = let a' : k
 ran_from {c} {e} {d} {p} {R} k l z q y (failed v p' m S n w a b x) = let a' : k c.end p ≡ stop v p' S m = rw q at a in failed v p' m S n z (sym y ∙ a') (rw q at b) (x ∙ rw q)
 
 -- presence bits, then the fields
-pub ran_opened : {s : List ℕ} {c d : Cursor} {R : List Rec} (fs : Flds) (x : Ctx) (n : ℕ) (g : Got) → flags fs ≡ n → all_read fs ≡ true → Inside s c → Opened s c n g
+pub ran_opened : {s : List ℕ} {c d : Cursor} {R : List Rec} (fs : Flds) (x : Ctx) (n : ℕ) (g : Got ℕ) → flags fs ≡ n → all_read fs ≡ true → Inside s c → Opened s c n g
     → Ran (λ u p. read_fields fs x (bit_of s) u c.at p) g.c d R → Ran (λ u p. read (seq fs) x (bit_of s) u p) c d R
 unfolding read
 ran_opened {s} {c} {d} fs x n g f a i (shut_already z q) h = let e = ran_stays _ g.c d (rw q z) h in stayed z (e.0 ∙ q) e.1
@@ -229,7 +229,7 @@ ran_opened {s} {c} fs x n g f a i (opened z l v q) h =
     (sym (fetch_go (bit_of s) c.end c.at (flags fs) _ _ (omega arith) ∙ rw (read_unmarked fs (bit_of s) c.at a, f) (then-nil (c.at + n) (λ p. read_fields fs x (bit_of s) c.end c.at p)))) h
 
 -- n bits, and what follows them
-pub runs_pull : {b : ℕ} {s : List ℕ} {c : Cursor} {m : ℕ} {w w' : List ℕ} {r : At} (n : ℕ) (g : Got) (k : ℕ → ℕ → ℕ → Ans) → Pulls s c n g → Runs b (λ u p. k g.v u p) s g.c m w w' r → Runs b (Behind s n k) s c m w w' r
+pub runs_pull : {b : ℕ} {s : List ℕ} {c : Cursor} {m : ℕ} {w w' : List ℕ} {r : At} (n : ℕ) (g : Got ℕ) (k : ℕ → ℕ → ℕ → Ans) → Pulls s c n g → Runs b (λ u p. k g.v u p) s g.c m w w' r → Runs b (Behind s n k) s c m w w' r
 runs_pull {s = s} {c} {r = r} n g k o y = record { recs = y.recs; ran = λ i. go i (o.gave i) (y.ran (pulled_inside s c n g i (o.gave i))); told = y.told }
   where
     go : Inside s c → Pulled s c n g → Ran (λ u p. k g.v u p) g.c r.c y.recs → Ran (Behind s n k) c r.c y.recs
@@ -240,6 +240,6 @@ runs_pull {s = s} {c} {r = r} n g k o y = record { recs = y.recs; ran = λ i. go
     go i (got z l v q) x = ran_from (λ u p. k g.v u p) (Behind s n k) z q (sym (pull_go (bit_of s) c.end c.at n _ l ∙ rw (← v))) x
 
 -- the same where what follows also knows the place at which the bits started
-pub runs_from : {b : ℕ} {s : List ℕ} {c : Cursor} {m : ℕ} {w w' : List ℕ} {r : At} (n : ℕ) (g : Got) (k : ℕ → ℕ → ℕ → ℕ → Ans) → Pulls s c n g → Runs b (λ u p. k c.at g.v u p) s g.c m w w' r
+pub runs_from : {b : ℕ} {s : List ℕ} {c : Cursor} {m : ℕ} {w w' : List ℕ} {r : At} (n : ℕ) (g : Got ℕ) (k : ℕ → ℕ → ℕ → ℕ → Ans) → Pulls s c n g → Runs b (λ u p. k c.at g.v u p) s g.c m w w' r
     → Runs b (λ u p. pull (bit_of s) u p n (λ v. k p v u (p + n))) s c m w w' r
 runs_from {s = s} {c} n g k x y = runs_same (Behind s n (k c.at)) (λ u p. pull (bit_of s) u p n (λ v. k p v u (p + n))) (λ _ _. refl) (runs_pull n g (k c.at) x y)

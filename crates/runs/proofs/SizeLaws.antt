@@ -53,7 +53,7 @@ shape (past lacked p R m) = 1
 shape (stop w p R m) = 2
 
 -- what a size gave, whatever follows it
-data SizedAt (row : ℕ) (s : List ℕ) (c : Cursor) (g : Got) : Type 0 where
+data SizedAt (row : ℕ) (s : List ℕ) (c : Cursor) (g : Got ℕ) : Type 0 where
   stuck : (c.why ≡ 0 → ⊥) → g.c ≡ c → SizedAt row s c g
   short : (o : ℕ) → c.why ≡ 0 → ((K : ℕ → ℕ → Ans) → sized (bit_of s) c.end c.at (lowest row) (highest row) K ≡ stop (out o) c.at [] 0) → g.c ≡ put c c.at (number (out o)) c.marks → SizedAt row s c g
   got : (p m : ℕ) → c.why ≡ 0 → ((K : ℕ → ℕ → Ans) → sized (bit_of s) c.end c.at (lowest row) (highest row) K ≡ then (ok p [] m) (λ q. K g.v q)) → p ≤ c.end → g.c ≡ put c p 0 (or c.marks m)
@@ -63,7 +63,7 @@ data SizedAt (row : ℕ) (s : List ℕ) (c : Cursor) (g : Got) : Type 0 where
 abbrev told-size : ℕ → ℕ → Ans
 told-size n q = ok q (rec n 0 0 0 0 ∷ []) 0
 
-sized_at : (row : ℕ) {s : List ℕ} {c : Cursor} {g : Got} → Sized row s c g → Inside s c → SizedAt row s c g
+sized_at : (row : ℕ) {s : List ℕ} {c : Cursor} {g : Got ℕ} → Sized row s c g → Inside s c → SizedAt row s c g
 unfolding sized then glue stand marks whys told first shape
 sized_at row {s} {c} {g} h i = go ((h.size (λ n u q. told-size n q) (reads_ok (rec g.v 0 0 0 0 ∷ []) 0 (marked-nil g.c))).led i)
   where
@@ -106,7 +106,7 @@ sized_at row {s} {c} {g} h i = go ((h.size (λ n u q. told-size n q) (reads_ok (
         let e₃ : 0 ≡ m = ap marks a' in
         short (c.at + w - c.end) z (away y) (q ∙ rw (← e₁, ← e₂, ← e₃, or_nil c.marks)))
 
-pub runs_sized : {b : ℕ} (row : ℕ) (K : ℕ → ℕ → ℕ → Ans) {s : List ℕ} {c : Cursor} {g : Got} {n : ℕ} {w w' : List ℕ} {r : At} → Sized row s c g → Runs b (λ u p. K g.v u p) s g.c n w w' r
+pub runs_sized : {b : ℕ} (row : ℕ) (K : ℕ → ℕ → ℕ → Ans) {s : List ℕ} {c : Cursor} {g : Got ℕ} {n : ℕ} {w w' : List ℕ} {r : At} → Sized row s c g → Runs b (λ u p. K g.v u p) s g.c n w w' r
     → Runs b (λ u p. sized (bit_of s) u p (lowest row) (highest row) (λ n q. K n u q)) s c n w w' r
 unfolding is_past
 runs_sized row K {s} {c} {g} {r = r} h y = record { recs = y.recs; ran = λ i. go i (sized_at row h i); told = y.told }

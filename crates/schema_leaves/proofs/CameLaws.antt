@@ -89,7 +89,7 @@ came_then k t (failed y p m S n e l c j q i) h z = absurd (says_why y n c h)
 
 ---------------------------------------------------------------- behind a number
 
-module _ {s : List ℕ} {a : Step} (o : Open s a) (n : ℕ) (g : Got) (p : Pulls s a.c n g) where
+module _ {s : List ℕ} {a : Step} (o : Open s a) (n : ℕ) (g : Got ℕ) (p : Pulls s a.c n g) where
   -- the bits were there
   pub record There : Type 0 where
     pub room : a.c.at + n ≤ a.c.end

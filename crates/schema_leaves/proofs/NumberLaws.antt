@@ -38,7 +38,7 @@ pub over-above : (d v : ℕ) → d < v → over d v ≡ 1
 unfolding over unless mark
 over-above d v h = rw (lt-leb v d h)
 
-module _ {s : List ℕ} {a : Step} (o : Open s a) (t lo hi d n : ℕ) (g : Got) (e : d ≡ extent lo hi) (q : n ≡ width d) (p : Pulls s a.c n g) where
+module _ {s : List ℕ} {a : Step} (o : Open s a) (t lo hi d n : ℕ) (g : Got ℕ) (e : d ≡ extent lo hi) (q : n ≡ width d) (p : Pulls s a.c n g) where
   w_is : width (extent lo hi) ≡ n
   w_is = sym (q ∙ ap width e)
 
@@ -66,7 +66,7 @@ module _ {s : List ℕ} {a : Step} (o : Open s a) (t lo hi d n : ℕ) (g : Got) 
 
 ---------------------------------------------------------------- names
 
-module _ {s : List ℕ} {a : Step} (o : Open s a) (t hi n : ℕ) (g : Got) (b : hi < 2 ^ 64) (q : n ≡ width hi) (p : Pulls s a.c n g) where
+module _ {s : List ℕ} {a : Step} (o : Open s a) (t hi n : ℕ) (g : Got ℕ) (b : hi < 2 ^ 64) (q : n ≡ width hi) (p : Pulls s a.c n g) where
   name-width : width (extent 0 hi) ≡ n
   name-width = sym (q ∙ ap width (from_zero hi b))
 

@@ -56,7 +56,7 @@ module _ {s : List ℕ} {a : Step} (o : Open s a) (t n : ℕ) where
 
 ---------------------------------------------------------------- characters of seven bits
 
-module _ {s : List ℕ} {a : Step} (o : Open s a) (t lo hi n : ℕ) (g : Got) (q : n ≡ width (hi - lo)) (p : Pulls s a.c n g) where
+module _ {s : List ℕ} {a : Step} (o : Open s a) (t lo hi n : ℕ) (g : Got ℕ) (q : n ≡ width (hi - lo)) (p : Pulls s a.c n g) where
   abbrev told : ℕ → ℕ → List Rec
   told from len = pack t 0 a.c.at (units (bit_of s) 7 from len)
 
@@ -136,11 +136,11 @@ module _ (room fewest more : ℕ) where
   not-held e h = leb-false (fewest + more) room (sym e ∙ h)
 
 -- the place behind a number lies in the frame, and in 32 bits
-pub text_bounds : {s : List ℕ} {a : Step} (o : Open s a) (n : ℕ) (g : Got) (p : Pulls s a.c n g) → g.c.why ≡ 0 → (g.c.at ≤ g.c.end) × (g.c.end ≤ length s * 8) × (g.c.end < 2 ^ 32)
+pub text_bounds : {s : List ℕ} {a : Step} (o : Open s a) (n : ℕ) (g : Got ℕ) (p : Pulls s a.c n g) → g.c.why ≡ 0 → (g.c.at ≤ g.c.end) × (g.c.end ≤ length s * 8) × (g.c.end < 2 ^ 32)
 text_bounds o n g p z = let y = there o n g p z in rw y.cursor (y.room, o.inside.1, omega (arith, o.inside.1, o.short))
 
 -- and where the room holds the text, so do its characters
-pub text-held : {s : List ℕ} {a : Step} (o : Open s a) (n : ℕ) (g : Got) (p : Pulls s a.c n g) → g.c.why ≡ 0 → (lo : ℕ) {t : Bool} → t ≡ leb (lo + g.v) ((g.c.end - g.c.at) / 7) → t ≡ true
+pub text-held : {s : List ℕ} {a : Step} (o : Open s a) (n : ℕ) (g : Got ℕ) (p : Pulls s a.c n g) → g.c.why ≡ 0 → (lo : ℕ) {t : Bool} → t ≡ leb (lo + g.v) ((g.c.end - g.c.at) / 7) → t ≡ true
     → (g.c.at + (lo + g.v) * 7 ≤ length s * 8) × (g.c.at + (lo + g.v) * 7 < 2 ^ 32)
 text-held o n g p z lo e h =
     let y = held ((g.c.end - g.c.at) / 7) lo g.v e h in

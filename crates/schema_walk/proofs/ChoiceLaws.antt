@@ -48,7 +48,7 @@ module _ (F : ℕ → Fmt) where
 pub told-open : {s : List ℕ} {a : Step} {w w' : List ℕ} {k : ℕ} {r : Rec} → Open s a → Put w w' a.n k r → Open s (at a.c k)
 told-open {a = a} o h = record { goes = o.goes; inside = o.inside; short = o.short; few = rw h.count (counted-top a.n 1) }
 
-module _ (F : ℕ → Fmt) (t first n : ℕ) (s : List ℕ) {a : Step} (o : Open s a) {b : ℕ} (g : Got) (q : b ≡ width (n - 1)) (p : Pulls s a.c b g) where
+module _ (F : ℕ → Fmt) (t first n : ℕ) (s : List ℕ) {a : Step} (o : Open s a) {b : ℕ} (g : Got ℕ) (q : b ≡ width (n - 1)) (p : Pulls s a.c b g) where
   fs : Alts
   fs = alternatives_from F first n
 
@@ -91,7 +91,7 @@ module _ (F : ℕ → Fmt) (t first n : ℕ) (s : List ℕ) {a : Step} (o : Open
 
 ---------------------------------------------------------------- an extension bit
 
-module _ (f : Fmt) (t : ℕ) (s : List ℕ) {a : Step} (o : Open s a) (g : Got) (p : Pulls s a.c 1 g) where
+module _ (f : Fmt) (t : ℕ) (s : List ℕ) {a : Step} (o : Open s a) (g : Got ℕ) (p : Pulls s a.c 1 g) where
   abbrev Extension : List ℕ → Step → List ℕ → Type 0
   Extension w z w' = Came (read (ext f (extended t)) (0, 0) (bit_of s) a.c.end a.c.at) a w z w'
 

@@ -42,13 +42,13 @@ module _ {en : ℕ} {fs : Alts} {i : ℕ} {s : List ℕ} {a z : At} where
       })
 
 -- the index is told before the alternative
-pub does_choice : {en t : ℕ} {fs : Alts} {s : List ℕ} {a z : At} {w w₁ w₂ : List ℕ} {m b : ℕ} (g : Got) → Pulls s a.c (width (highest (alternatives_of fs))) g → Told 1 w w₁ a.n m (rec t en g.v 0 a.c.at ∷ [])
+pub does_choice : {en t : ℕ} {fs : Alts} {s : List ℕ} {a z : At} {w w₁ w₂ : List ℕ} {m b : ℕ} (g : Got ℕ) → Pulls s a.c (width (highest (alternatives_of fs))) g → Told 1 w w₁ a.n m (rec t en g.v 0 a.c.at ∷ [])
     → Does b en (Alternative fs g.v s) (record { n = m; c = g.c }) z w₁ w₂ → Does (1 + b) en (Takes (choice t fs) s) a z w w₂
 does_choice {t = t} {fs} {a = a} g p e x = record { recs = λ n. rec t n g.v 0 a.c.at ∷ x.recs n; reads = takes_choice t fs g p x.reads.took; told = told-then e x.told }
 
 ---------------------------------------------------------------- extension bits
 
-module _ {en b : ℕ} {f k : Fmt} {s : List ℕ} {a z : At} {w w' : List ℕ} (g : Got) (p : Pulls s a.c 1 g) where
+module _ {en b : ℕ} {f k : Fmt} {s : List ℕ} {a z : At} {w w' : List ℕ} (g : Got ℕ) (p : Pulls s a.c 1 g) where
   pub does_root : g.v ≡ 0 → Does b en (Takes f s) (behind g a) z w w' → Does b en (Takes (ext f k) s) a z w w'
   does_root e x = record { recs = x.recs; reads = takes_root g p e x.reads; told = x.told }
 

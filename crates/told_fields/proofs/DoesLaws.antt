@@ -92,7 +92,7 @@ pub record Since (s : List ℕ) (o g c : Cursor) : Type 0 where
 pub record Shown (has : ℕ) (s : List ℕ) (o c : Cursor) (i : ℕ) : Type 0 where
   pub bit : Inside s o → c.why ≡ 0 → has ≡ bit_of s (o.at + i)
 
-module _ {s : List ℕ} {o : Cursor} {n : ℕ} {g : Got} (p : Opens s o n g) where
+module _ {s : List ℕ} {o : Cursor} {n : ℕ} {g : Got ℕ} (p : Opens s o n g) where
   pub since_opened : Since s o g.c g.c
   since_opened = record { inside = λ i. opened_inside i p; goes = λ i z. z }
 
@@ -100,7 +100,7 @@ module _ {s : List ℕ} {o : Cursor} {n : ℕ} {g : Got} (p : Opens s o n g) whe
   shown j l h = record { bit = λ i z. opened-bit j i p l (h.goes i z) }
 
 -- the last of them
-pub shown_last : {s : List ℕ} {o c : Cursor} {g : Got} (n : ℕ) → Opens s o (suc n) g → Since s o g.c c → Shown (g.v % 2) s o c n
+pub shown_last : {s : List ℕ} {o c : Cursor} {g : Got ℕ} (n : ℕ) → Opens s o (suc n) g → Since s o g.c c → Shown (g.v % 2) s o c n
 shown_last n p h = record { bit = λ i z. last_bit n i p (h.goes i z) }
 
 module _ {en : ℕ} {s : List ℕ} {o g : Cursor} {a z : At} {w w' : List ℕ} {b : ℕ} where
@@ -125,9 +125,9 @@ module _ {en : ℕ} {s : List ℕ} {o : Cursor} {a z : At} {w w' : List ℕ} {b 
   from_last_may {has} p x = does_as (λ T h. record { fields = λ l. fields_last_may has (p.bit l) h }) x
 
 -- the cursor behind what was read before anything of it is told
-abbrev pub behind : Got → At → At
+abbrev pub behind : Got ℕ → At → At
 behind g a = record { n = a.n; c = g.c }
 
-pub does_opened : {en : ℕ} {fs : Flds} {s : List ℕ} {a z : At} {w w' : List ℕ} {b : ℕ} (n : ℕ) (g : Got) → flags fs ≡ n → all_read fs ≡ true → Opens s a.c n g
+pub does_opened : {en : ℕ} {fs : Flds} {s : List ℕ} {a z : At} {w w' : List ℕ} {b : ℕ} (n : ℕ) (g : Got ℕ) → flags fs ≡ n → all_read fs ≡ true → Opens s a.c n g
     → Does b en (FieldsFrom fs s a.c 0) (behind g a) z w w' → Does b en (Takes (seq fs) s) a z w w'
 does_opened {a = a} n g f r p x = record { recs = x.recs; reads = takes_opened n g f r p (λ i. rw (add-zero a.c.at) at (x.reads.fields i)); told = x.told }

@@ -1,7 +1,7 @@
 // A case's line.
 use cursor::place::Got;
 
-pub fn print(kind: &[u8], frame: &[u8], g: Got) {
+pub fn print(kind: &[u8], frame: &[u8], g: Got<u64>) {
     let c = g.c;
     io::write_all(1, kind);
     octets(frame);
