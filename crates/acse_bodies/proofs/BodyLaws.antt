@@ -10,8 +10,9 @@ use Rattle.atn.specs.Format.{Fmt}
 use Rattle.atn.specs.Reading.{Rec, mark, read, read_choice}
 use Rattle.atn.specs.Tags as tag
 use Rattle.cursor.specs.declared.place.Cursor.{Cursor}
+use Rattle.cursor.specs.declared.place.Got.{Got}
 use Rattle.cursor.specs.Place.{marked}
-use Rattle.acse_reasons.specs.declared.notes.NoteAt.{NoteAt}
+use Rattle.acse_reasons.specs.declared.notes.Note.{Note}
 use Rattle.acse_bodies.specs.declared.Body.{Body}
 use Rattle.acse_reasons.specs.SoFar.{Grows, Keeps}
 use Rattle.acse_reasons.specs.Notes.{note_recs}
@@ -35,5 +36,5 @@ release-chosen (suc (suc zero)) l h x = x.grows
 release-chosen (suc (suc (suc zero))) l h x = x.grows
 release-chosen (suc (suc (suc (suc i)))) l h x = absurd (omega arith)
 
-pub keeps-alone : {f : Fmt} {s : List ℕ} {c : Cursor} {r : Body} (n : NoteAt) → r ≡ alone_body n → Keeps f s c n.c (note_recs n.note) → Keeps f s c r.c (body_recs r)
-keeps-alone n q h = rw (q, append-nil (note_recs n.note)) h
+pub keeps-alone : {f : Fmt} {s : List ℕ} {c : Cursor} {r : Body} (n : Got Note) → r ≡ alone_body n → Keeps f s c n.c (note_recs n.v) → Keeps f s c r.c (body_recs r)
+keeps-alone n q h = rw (q, append-nil (note_recs n.v)) h

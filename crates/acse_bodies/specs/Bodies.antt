@@ -6,8 +6,9 @@ use Rattle.atn.specs.Reading.{Rec, read_choice}
 use Rattle.atn.specs.Messages.{ext_reason}
 use Rattle.atn.specs.Tags as tag
 use Rattle.cursor.specs.declared.place.Cursor.{Cursor}
+use Rattle.cursor.specs.declared.place.Got.{Got}
 use Rattle.cursor.specs.Place as place
-use Rattle.acse_reasons.specs.declared.notes.NoteAt.{NoteAt}
+use Rattle.acse_reasons.specs.declared.notes.Note.{Note}
 use Rattle.acse_bodies.specs.declared.Body.{Body}
 use Rattle.acse_reasons.specs.SoFar.{Grows}
 use Rattle.acse_reasons.specs.declared.notes.Note.TheVariants.{Untold}
@@ -28,7 +29,7 @@ body_recs r = note_recs r.first ++ note_recs r.next
 abbrev pub unread_body : Cursor → ℕ → Body
 unread_body c m = record { first = Untold; next = Untold; c = place.marked c m }
 
-abbrev pub alone_body : NoteAt → Body
+abbrev pub alone_body : Got Note → Body
 alone_body n = record { first = n.note; next = Untold; c = n.c }
 
 -- the body of the message with the index i

@@ -7,10 +7,10 @@ ghost use Rattle.acse_bodies.specs.Bodies.{release_body, abort_body, unread_body
 ghost use Rattle.acse_reasons.specs.SoFar.{Keeps};
 
 use acse_reasons::few::few;
-use acse_reasons::notes::{Note, NoteAt, note_at};
+use acse_reasons::notes::{Note, note_at};
 use acse_reasons::reasons::{reason, release_reason};
 use acse_reasons::tags;
-use cursor::place::{Cursor, mark};
+use cursor::place::{Cursor, Got, mark};
 use field_ranges::table::{ABORT_DIAGNOSTIC, SIDE};
 
 // Two notes at most, and the place behind what was read for them.
@@ -33,10 +33,10 @@ pub fn unread(c: Cursor, marks: u64) -> Body
     }
 }
 
-fn alone(n: NoteAt) -> Body
+fn alone(n: Got<Note>) -> Body
     ensures { result ≡ alone_body n }
 {
-    let first = n.note;
+    let first = n.v;
     let c = n.c;
     Body {
         first: first,
@@ -76,8 +76,8 @@ fn read_abort(s: &[u8], c: Cursor) -> Body
         return alone(source);
     }
     let diagnostic = reason(s, source.c, ABORT_DIAGNOSTIC.hi, tags::ABORT_DIAGNOSTIC);
-    let first = source.note;
-    let next = diagnostic.note;
+    let first = source.v;
+    let next = diagnostic.v;
     let d = diagnostic.c;
     Body {
         first: first,

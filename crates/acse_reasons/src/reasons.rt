@@ -8,12 +8,12 @@ ghost use Rattle.acse_reasons.specs.Notes.{note_at, note_recs, listed_reason};
 ghost use Rattle.acse_reasons.specs.SoFar.{Keeps};
 
 use super::few::few;
-use super::notes::{NoteAt, note_at};
-use cursor::place::{Cursor, mark};
+use super::notes::note_at;
+use cursor::place::{Cursor, Got, mark};
 use field_ranges::table::RELEASE_REASON;
 use per::width::bits_for;
 
-fn extended(c: Cursor, tag: u64) -> NoteAt
+fn extended(c: Cursor, tag: u64) -> Got<Note>
     ensures { result ≡ note_at (marked c 2) tag 0 1 c.at }
 {
     let d = mark(c, 2);
@@ -31,7 +31,7 @@ fn above(v: u64, highest: u64) -> u64
 }
 
 // A number from 0 on. The highest is handed over and no range: so this is compiled into who calls it.
-pub fn reason(s: &[u8], c: Cursor, highest: u64, tag: u64) -> NoteAt
+pub fn reason(s: &[u8], c: Cursor, highest: u64, tag: u64) -> Got<Note>
     requires { highest < 256 }
     ensures { Keeps (ext_reason tag highest) s.now c result.c (note_recs result.note) }
 {
@@ -58,7 +58,7 @@ fn unlisted(v: u64) -> u64
 }
 
 // A release reason: some numbers of a range.
-pub fn release_reason(s: &[u8], c: Cursor, tag: u64) -> NoteAt
+pub fn release_reason(s: &[u8], c: Cursor, tag: u64) -> Got<Note>
     ensures { Keeps (listed_reason tag) s.now c result.c (note_recs result.note) }
 {
     let extension = few(s, c, 1);

@@ -22,7 +22,7 @@ use Rattle.ranged_numbers.proofs.ChoiceLaws.{takes_index, takes_unlisted}
 use Rattle.ranged_numbers.proofs.Places.{takes_told, pull_along, number_back, number_along, along_place}
 use Rattle.cursor.proofs.FormatLaws.{all_read, takes_plain, takes_opened, takes_noted, fields_must, fields_last, fields_may, fields_last_may, opened_inside, opened-bit, last_bit, maybe_back, takes_back}
 use Rattle.angles.specs.declared.Form.{Form}
-use Rattle.angles.specs.declared.FormAt.{FormAt}
+use Rattle.angles.specs.declared.Form.TheVariants.{Thousandths, Hundredths, Seconds}
 use Rattle.angles.specs.Angles.{form, bits, form_recs, angle_recs, angle, Forms, Angles}
 
 -- the alternatives of a form
@@ -37,7 +37,7 @@ module _ (t k j : ℕ) where
 -- a form by its index; where the reading went on, each number stands behind the bits of those before
 module _ {k j : ℕ} {s : List ℕ} {c : Cursor} (g : Got ℕ) (p : Pulls s c 2 g) where
   module _ (fits : c.end < 2 ^ 64) where
-    pub form-zero : g.v ≡ 0 → (a : Got ℕ) → Ranged k s g.c a → Forms k j s c (record { form = record { form = 0; first = a.v; second = 0; third = 0 }; c = a.c })
+    pub form-zero : g.v ≡ 0 → (a : Got ℕ) → Ranged k s g.c a → Forms k j s c (record { v = Thousandths a.v; c = a.c })
     unfolding read_choice width width_in encoding.highest count
     form-zero z a h =
         let index = pull_along p in
@@ -47,7 +47,7 @@ module _ {k j : ℕ} {s : List ℕ} {c : Cursor} (g : Got ℕ) (p : Pulls s c 2 
           ends = along_place (number_along k index h) fits;
         }
 
-    pub form-one : g.v ≡ 1 → (a : Got ℕ) → Ranged j s g.c a → (b : Got ℕ) → Ranged rows.hundredths s a.c b → Forms k j s c (record { form = record { form = 1; first = a.v; second = b.v; third = 0 }; c = b.c })
+    pub form-one : g.v ≡ 1 → (a : Got ℕ) → Ranged j s g.c a → (b : Got ℕ) → Ranged rows.hundredths s a.c b → Forms k j s c (record { v = Hundredths a.v b.v; c = b.c })
     unfolding read_choice flags all_read width width_in encoding.highest count
     form-one z a h b m =
         let index = pull_along p in
@@ -60,7 +60,7 @@ module _ {k j : ℕ} {s : List ℕ} {c : Cursor} (g : Got ℕ) (p : Pulls s c 2 
         }
 
     pub form_two : g.v ≡ 2 → (a : Got ℕ) → Ranged j s g.c a → (b : Got ℕ) → Ranged rows.minutes s a.c b → (e : Got ℕ) → Ranged rows.minutes s b.c e
-        → Forms k j s c (record { form = record { form = 2; first = a.v; second = b.v; third = e.v }; c = e.c })
+        → Forms k j s c (record { v = Seconds a.v b.v e.v; c = e.c })
     unfolding read_choice flags all_read width width_in encoding.highest count
     form_two z a h b m e l =
         let index = pull_along p in
@@ -74,7 +74,7 @@ module _ {k j : ℕ} {s : List ℕ} {c : Cursor} (g : Got ℕ) (p : Pulls s c 2 
         }
 
   -- any other index is not listed
-  pub form-none : (g.v ≡ 0 → ⊥) → (g.v ≡ 1 → ⊥) → (g.v ≡ 2 → ⊥) → {d : Cursor} {v : Form} → d ≡ stopped g.c 5 1 → Forms k j s c (record { form = v; c = d })
+  pub form-none : (g.v ≡ 0 → ⊥) → (g.v ≡ 1 → ⊥) → (g.v ≡ 2 → ⊥) → {d : Cursor} {v : Form} → d ≡ stopped g.c 5 1 → Forms k j s c (record { v = v; c = d })
   unfolding read_choice mark width width_in encoding.highest count
   form-none z₀ z₁ z₂ {d} {v} q =
       record {
@@ -89,12 +89,12 @@ module _ {k j : ℕ} {s : List ℕ} {c : Cursor} (g : Got ℕ) (p : Pulls s c 2 
       go t (suc (suc (suc v))) x u r y₀ y₁ y₂ = refl
 
 -- the form, and the side behind it
-pub form-side : {k j : ℕ} {s : List ℕ} {c : Cursor} {f : FormAt} {g : Got ℕ} → Forms k j s c f → Ranged rows.side s f.c g → Angles k j s c (record { angle = record { at = c.at; form = f.form; side = g.v }; c = g.c })
+pub form-side : {k j : ℕ} {s : List ℕ} {c : Cursor} {f : Got Form} {g : Got ℕ} → Forms k j s c f → Ranged rows.side s f.c g → Angles k j s c (record { v = record { at = c.at; form = f.v; side = g.v }; c = g.c })
 unfolding flags all_read angle_recs
 form-side {k} {j} {s} {c} {f} {g} h r =
     record {
       reads = λ t.
-          takes_told (λ n. form_recs (bits j) t c.at f.form n ++ (rec (t + 6) n g.v 0 f.c.at ∷ [])) _
+          takes_told (λ n. form_recs (bits j) t c.at f.v n ++ (rec (t + 6) n g.v 0 f.c.at ∷ [])) _
           (λ i z n. rw (h.ends i ((takes_back (r.number t) (takes_back (h.reads t) i).0).1 z)))
           (takes_plain refl refl (fields_must (h.reads t) (fields_last (r.number (t + 6)))));
     }

@@ -5,18 +5,18 @@ use Rattle.atn.specs.Reading.{Rec}
 use Rattle.atn.specs.Messages as message
 use Rattle.atn.specs.Tags as tag
 use Rattle.cursor.specs.declared.place.Cursor.{Cursor}
+use Rattle.cursor.specs.declared.place.Got.{Got}
 use Rattle.cursor.specs.Place.{Takes}
 use Rattle.quantities.specs.Records.{quantity_recs}
 use Rattle.enumerations.specs.Records.{name_recs, triple_recs}
 use Rattle.codes_runways.specs.Records.{code_recs, runway_recs}
-use Rattle.frequencies.specs.Records.{frequency_recs, HeldChannel}
+use Rattle.frequencies.specs.Records.{frequency_recs, HeldFrequency}
 use Rattle.angles.specs.Angles.{pair_recs}
-use Rattle.named_places.specs.Names.{Held, procedure_recs}
+use Rattle.named_places.specs.Names.{Held, HeldIfThere, procedure_recs}
 use Rattle.positions.specs.Positions.{HeldPosition, position_recs, departure_recs}
 use Rattle.argument_values.specs.declared.Argument.{Argument}
 use Rattle.argument_values.specs.declared.Argument.TheVariants.{Nothing, Position, Speed, SpeedType, SpeedTypes, Level, Degrees, Frequency, Code}
 use Rattle.argument_values.specs.declared.Argument.TheVariants.{TrafficType, ClearanceType, ErrorInformation, FacilityFunction, Procedure, Runway, Coordinates, Departure}
-use Rattle.argument_values.specs.declared.ArgumentAt.{ArgumentAt}
 
 -- what the element of the byte k has as its argument: atn's argument_of, without what its failure does to the walk
 unfoldable pub argument_body : ℕ → Fmt
@@ -51,18 +51,18 @@ HeldArgument s (SpeedType v) = Unit {0}
 HeldArgument s (SpeedTypes v) = Unit {0}
 HeldArgument s (Level v) = Unit {0}
 HeldArgument s (Degrees v) = Unit {0}
-HeldArgument s (Frequency v) = HeldChannel s v.channel
+HeldArgument s (Frequency v) = HeldFrequency s v
 HeldArgument s (Code v) = Unit {0}
 HeldArgument s (TrafficType v) = Unit {0}
 HeldArgument s (ClearanceType v) = Unit {0}
 HeldArgument s (ErrorInformation v) = Unit {0}
 HeldArgument s (FacilityFunction v) = Unit {0}
-HeldArgument s (Procedure v) = Held s v.name × Held s v.transition
+HeldArgument s (Procedure v) = Held s v.name × HeldIfThere s v.transition
 HeldArgument s (Runway v) = Unit {0}
 HeldArgument s (Coordinates v) = Unit {0}
 HeldArgument s (Departure v) = Held s v.flight × HeldPosition s v.position
 
-pub record Arguments (k : ℕ) (s : List ℕ) (c : Cursor) (r : ArgumentAt) : Type 0 where
-  pub reads : Takes (argument_body k) s c r.c (argument_recs s r.argument)
+pub record Arguments (k : ℕ) (s : List ℕ) (c : Cursor) (r : Got Argument) : Type 0 where
+  pub reads : Takes (argument_body k) s c r.c (argument_recs s r.v)
   -- whatever was read
-  pub held : HeldArgument s r.argument
+  pub held : HeldArgument s r.v

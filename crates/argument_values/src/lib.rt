@@ -31,8 +31,3 @@ pub enum Argument {
     Departure(Departure),
 }
 
-#[derive(Clone, Copy)]
-pub struct ArgumentAt {
-    pub argument: Argument,
-    pub c: Cursor,
-}

@@ -3,18 +3,18 @@
 
 ghost use Rattle.argument_values.specs.Arguments.{Arguments};
 
-use argument_values::{Argument, ArgumentAt};
-use cursor::place::{Cursor, stop};
+use argument_values::Argument;
+use cursor::place::{Cursor, Got, stop};
 
 // The argument of the table's byte. 0 has no bits; any byte above 16 has no reader.
-pub fn read_argument(s: &[u8], c: Cursor, byte: u8) -> ArgumentAt
+pub fn read_argument(s: &[u8], c: Cursor, byte: u8) -> Got<Argument>
     ensures { Arguments byte s.now c result }
 {
     match byte {
         0 => {
             let none = Argument::Nothing;
-            ArgumentAt {
-                argument: none,
+            Got {
+                v: none,
                 c: c,
             }
         }
@@ -37,8 +37,8 @@ pub fn read_argument(s: &[u8], c: Cursor, byte: u8) -> ArgumentAt
         _ => {
             let end = stop(c, 5, 0);
             let none = Argument::Nothing;
-            ArgumentAt {
-                argument: none,
+            Got {
+                v: none,
                 c: end,
             }
         }

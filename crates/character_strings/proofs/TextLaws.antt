@@ -21,7 +21,7 @@ use Rattle.atn.proofs.Then.{glue-then}
 use Rattle.cursor.specs.declared.place.Cursor.{Cursor}
 use Rattle.cursor.specs.declared.place.Got.{Got}
 use Rattle.field_ranges.specs.declared.table.Range.{Range}
-use Rattle.character_strings.specs.declared.TextAt.{TextAt}
+use Rattle.character_strings.specs.declared.Text.{Text}
 use Rattle.cursor.specs.Place.{number, put, stopped, marked, Inside, Pulled, stuck, short, got, Pulls, Led, stayed, went, failed, Reads}
 use Rattle.field_ranges.specs.Ranges.{width_of}
 use Rattle.field_ranges.specs.Ends.{lowest, highest}
@@ -142,11 +142,11 @@ module _ (s : List ℕ) (e : ℕ) where
 in_frame-none : {w : ℕ} {s : List ℕ} → InFrame w s (record { from = 0; at = 0; len = 0 })
 in_frame-none {w} = record { there = omega (arith, zero-mul w); fits = omega (arith, zero-mul w) }
 
-abbrev cut : Cursor → TextAt
-cut d = record { text = record { from = 0; at = 0; len = 0 }; c = d }
+abbrev cut : Cursor → Got Text
+cut d = record { v = record { from = 0; at = 0; len = 0 }; c = d }
 
 module _ {s : List ℕ} {c : Cursor} {n : ℕ} where
-  pub passed_all : {p : ℕ} {t : Bool} → Ahead s c 0 t → t ≡ true → n ≤ (c.end - c.at) / 7 → p ≡ c.at + 7 * n → p < 2 ^ 64 → Passed n s c (record { text = record { from = c.at; at = c.at; len = n }; c = put c p 0 c.marks })
+  pub passed_all : {p : ℕ} {t : Bool} → Ahead s c 0 t → t ≡ true → n ≤ (c.end - c.at) / 7 → p ≡ c.at + 7 * n → p < 2 ^ 64 → Passed n s c (record { v = record { from = c.at; at = c.at; len = n }; c = put c p 0 c.marks })
   passed_all {p} a t l q f =
       let z = a.goes t in
       let h = a.held t in
@@ -177,13 +177,13 @@ module _ {s : List ℕ} {c : Cursor} {n : ℕ} where
         held = in_frame-none;
       }
 
-pub text_of : {k : ℕ} {s : List ℕ} {c : Cursor} {g : Got ℕ} {r : TextAt} → Sized k s c g → Passed g.v s g.c r → Texts k s c (record { text = record { from = c.at; at = r.text.at; len = r.text.len }; c = r.c })
+pub text_of : {k : ℕ} {s : List ℕ} {c : Cursor} {g : Got ℕ} {r : Got Text} → Sized k s c g → Passed g.v s g.c r → Texts k s c (record { v = record { from = c.at; at = r.v.at; len = r.v.len }; c = r.c })
 unfolding read width width_in text_recs
 text_of {k} {s} {c} {g} {r} z p =
     record {
       text = λ t. record {
         took = λ x.
-            rw (coded-nil (units (bit_of s) 7 r.text.at r.text.len)) at
+            rw (coded-nil (units (bit_of s) 7 r.v.at r.v.len)) at
             (reads_same (λ e p. sized (bit_of s) e p (lowest k) (highest k) (λ n q. letters (bit_of s) e 7 128 n q (λ y. ok y (pack t x.0 c.at (coded 0 (units (bit_of s) 7 q n))) 0))) (λ e p. read (text t 128 (first 0) (lowest k) (highest k)) x (bit_of s) e p) refl
             (z.size (λ n e q. letters (bit_of s) e 7 128 n q (λ y. ok y (pack t x.0 c.at (coded 0 (units (bit_of s) 7 q n))) 0)) (p.characters (λ q n. pack t x.0 c.at (coded 0 (units (bit_of s) 7 q n))))));
       };
@@ -292,7 +292,7 @@ module _ {s : List ℕ} {c d : Cursor} (x : Digits 12 s c d) where
   unfolding read width width_in
   channel-read t u y r = in_window λ i. reads_same _ _ (sym (size_twelve (bit_of s) c.end c.at _ i.0)) r
 
-  pub channel-all : {t : Bool} → Ahead s c 48 t → t ≡ true → c.end < 2 ^ 64 → Channel s c (record { text = record { from = c.at; at = c.at; len = 12 }; c = d })
+  pub channel-all : {t : Bool} → Ahead s c 48 t → t ≡ true → c.end < 2 ^ 64 → Channel s c (record { v = record { from = c.at; at = c.at; len = 12 }; c = d })
   unfolding channel_recs
   channel-all a q f =
       record {
@@ -301,7 +301,7 @@ module _ {s : List ℕ} {c d : Cursor} (x : Digits 12 s c d) where
         held = record { there = omega (arith, a.room q, a.held q); fits = omega (arith, a.room q) };
       }
 
-  pub channel-cut : {t : Bool} → Ahead s c 48 t → t ≡ false → Channel s c (record { text = record { from = 0; at = 0; len = 0 }; c = d })
+  pub channel-cut : {t : Bool} → Ahead s c 48 t → t ≡ false → Channel s c (record { v = record { from = 0; at = 0; len = 0 }; c = d })
   channel-cut a q =
       record {
         channel = λ t u. record { took = λ y. channel-read t u y (reads_cut _ (λ i z. digits-short (bit_of s) c.end 12 c.at _ i.0 (a.short q i z)) (digits-told x (told t u y.0))) };

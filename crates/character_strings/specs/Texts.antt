@@ -7,7 +7,6 @@ use Rattle.cursor.specs.declared.place.Cursor.{Cursor}
 use Rattle.cursor.specs.declared.place.Got.{Got}
 use Rattle.field_ranges.specs.declared.table.Range.{Range}
 use Rattle.character_strings.specs.declared.Text.{Text}
-use Rattle.character_strings.specs.declared.TextAt.{TextAt}
 use Rattle.cursor.specs.Place.{Inside, Reads, Takes}
 use Rattle.field_ranges.specs.Ranges.{Listed}
 use Rattle.field_ranges.specs.Ends.{lowest, highest}
@@ -31,17 +30,17 @@ pub record SizeRow (r : Range) : Type 0 where
   pub ordered : r.lo ≤ r.hi
   pub most : r.hi ≤ 256
 
-pub record Texts (k : ℕ) (s : List ℕ) (c : Cursor) (r : TextAt) : Type 0 where
-  pub text : (t : ℕ) → Takes (text t 128 (first 0) (lowest k) (highest k)) s c r.c (λ n. text_recs t n s r.text)
+pub record Texts (k : ℕ) (s : List ℕ) (c : Cursor) (r : Got Text) : Type 0 where
+  pub text : (t : ℕ) → Takes (text t 128 (first 0) (lowest k) (highest k)) s c r.c (λ n. text_recs t n s r.v)
   -- whatever was read
-  pub few : r.text.len < 512
-  pub held : InFrame 7 s r.text
+  pub few : r.v.len < 512
+  pub held : InFrame 7 s r.v
 
-pub record Channel (s : List ℕ) (c : Cursor) (r : TextAt) : Type 0 where
-  pub channel : (t u : ℕ) → Takes (text t 11 (numeric u) 12 12) s c r.c (λ n. channel_recs t u n s r.text)
+pub record Channel (s : List ℕ) (c : Cursor) (r : Got Text) : Type 0 where
+  pub channel : (t u : ℕ) → Takes (text t 11 (numeric u) 12 12) s c r.c (λ n. channel_recs t u n s r.v)
   -- whatever was read
-  pub few : r.text.len ≤ 12
-  pub held : InFrame 4 s r.text
+  pub few : r.v.len ≤ 12
+  pub held : InFrame 4 s r.v
 
 -- what follows the size, for any reading that goes on from it
 pub record Sized (k : ℕ) (s : List ℕ) (c : Cursor) (g : Got ℕ) : Type 0 where
@@ -60,10 +59,10 @@ pub record Ahead (s : List ℕ) (c : Cursor) (n : ℕ) (r : Bool) : Type 0 where
   pub short : r ≡ false → Inside s c → c.why ≡ 0 → c.end < c.at + n
 
 -- so many characters of seven bits, whatever is told of them
-pub record Passed (n : ℕ) (s : List ℕ) (c : Cursor) (r : TextAt) : Type 0 where
-  pub characters : (T : ℕ → ℕ → List Rec) → Reads (λ e p. letters (bit_of s) e 7 128 n p (λ q. ok q (T p n) 0)) s c r.c (T r.text.at r.text.len)
-  pub few : r.text.len ≤ n
-  pub held : InFrame 7 s r.text
+pub record Passed (n : ℕ) (s : List ℕ) (c : Cursor) (r : Got Text) : Type 0 where
+  pub characters : (T : ℕ → ℕ → List Rec) → Reads (λ e p. letters (bit_of s) e 7 128 n p (λ q. ok q (T p n) 0)) s c r.c (T r.v.at r.v.len)
+  pub few : r.v.len ≤ n
+  pub held : InFrame 7 s r.v
 
 -- so many digits
 pub record Digits (n : ℕ) (s : List ℕ) (c d : Cursor) : Type 0 where

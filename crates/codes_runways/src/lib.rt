@@ -3,7 +3,7 @@
 
 ghost use Rattle.codes_runways.specs.Readers.{Codes, Runways};
 
-use cursor::place::Cursor;
+use cursor::place::{Cursor, Got};
 use field_ranges::table::{CODE_DIGIT, RUNWAY, RUNWAY_SIDE};
 use ranged_numbers::ranged;
 
@@ -19,13 +19,7 @@ pub struct Code {
     pub fourth_at: usize,
 }
 
-#[derive(Clone, Copy)]
-pub struct CodeAt {
-    pub code: Code,
-    pub c: Cursor,
-}
-
-pub fn read_code(s: &[u8], c: Cursor) -> CodeAt
+pub fn read_code(s: &[u8], c: Cursor) -> Got<Code>
     ensures { Codes s.now c result }
 {
     let first = ranged(s, c, CODE_DIGIT);
@@ -43,7 +37,7 @@ pub fn read_code(s: &[u8], c: Cursor) -> CodeAt
         fourth: fourth.v,
         fourth_at: third.c.at,
     };
-    CodeAt { code: code, c: end }
+    Got { v: code, c: end }
 }
 
 #[derive(Clone, Copy)]
@@ -54,13 +48,7 @@ pub struct Runway {
     pub side_at: usize,
 }
 
-#[derive(Clone, Copy)]
-pub struct RunwayAt {
-    pub runway: Runway,
-    pub c: Cursor,
-}
-
-pub fn read_runway(s: &[u8], c: Cursor) -> RunwayAt
+pub fn read_runway(s: &[u8], c: Cursor) -> Got<Runway>
     ensures { Runways s.now c result }
 {
     let direction = ranged(s, c, RUNWAY);
@@ -72,8 +60,8 @@ pub fn read_runway(s: &[u8], c: Cursor) -> RunwayAt
         side: side.v,
         side_at: direction.c.at,
     };
-    RunwayAt {
-        runway: runway,
+    Got {
+        v: runway,
         c: end,
     }
 }

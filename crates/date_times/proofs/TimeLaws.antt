@@ -18,10 +18,9 @@ use Rattle.cursor.proofs.FormatLaws.{all_read, takes_plain, fields_must, fields_
 use Rattle.ranged_numbers.proofs.Split.{Stands, pull_went, stands_first, stands_last, told_at_lem, ranged_at, takes_inside}
 use Rattle.ranged_numbers.proofs.Places.{takes_told, along_here, number_back, number_along, along_place}
 use Rattle.date_times.specs.declared.DateTime.{DateTime}
-use Rattle.date_times.specs.declared.DateTimeAt.{DateTimeAt}
 use Rattle.date_times.specs.Times.{bits, DateTimes, date_time_recs}
 
-abbrev time : Cursor → Got ℕ → Got ℕ → Got ℕ → Got ℕ → Got ℕ → Got ℕ → DateTimeAt
+abbrev time : Cursor → Got ℕ → Got ℕ → Got ℕ → Got ℕ → Got ℕ → Got ℕ → Got DateTime
 time c year month day hours minutes seconds =
     record {
       time = record { at = c.at; year = year.v; month = month.v; day = day.v; hours = hours.v; minutes = minutes.v; seconds = seconds.v };

@@ -4,11 +4,11 @@ use Rattle.atn.specs.Messages.{date_time_group}
 use Rattle.atn.specs.Reading.{Rec, rec, word}
 use Rattle.atn.specs.Tags as tag
 use Rattle.cursor.specs.declared.place.Cursor.{Cursor}
+use Rattle.cursor.specs.declared.place.Got.{Got}
 use Rattle.cursor.specs.Place.{Takes}
 use Rattle.field_ranges.specs.Rows as rows
 use Rattle.field_ranges.specs.Ranges.{row_at, width_of}
 use Rattle.date_times.specs.declared.DateTime.{DateTime}
-use Rattle.date_times.specs.declared.DateTimeAt.{DateTimeAt}
 
 -- the bits of a number of the row k
 abbrev pub bits : ℕ → ℕ
@@ -25,5 +25,5 @@ date_time_recs v n =
     rec tag.seconds n v.seconds 0 (word (v.at + (bits rows.year + bits rows.month + bits rows.day + bits rows.hours + bits rows.minutes))) ∷
     []
 
-pub record DateTimes (s : List ℕ) (c : Cursor) (r : DateTimeAt) : Type 0 where
-  pub takes : Takes date_time_group s c r.c (λ n. date_time_recs r.time n)
+pub record DateTimes (s : List ℕ) (c : Cursor) (r : Got DateTime) : Type 0 where
+  pub takes : Takes date_time_group s c r.c (λ n. date_time_recs r.v n)

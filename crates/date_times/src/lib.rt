@@ -28,12 +28,6 @@ pub struct DateTime {
     pub seconds: u64,
 }
 
-#[derive(Clone, Copy)]
-pub struct DateTimeAt {
-    pub time: DateTime,
-    pub c: Cursor,
-}
-
 // A number of the range among the bits of v, with so many of them behind it, told by the cursor c.
 fn part(c: Cursor, v: u64, behind: usize, range: Range) -> Got<u64>
     requires { (behind < 64) × (width_of range < 64) }
@@ -44,7 +38,7 @@ fn part(c: Cursor, v: u64, behind: usize, range: Range) -> Got<u64>
 }
 
 // Where the window has all of it, two reads: up to the hours, and behind them. Else its numbers are read one by one, so that the reading stops at the one that lacks bits.
-pub fn read_date_time(s: &[u8], c: Cursor) -> DateTimeAt
+pub fn read_date_time(s: &[u8], c: Cursor) -> Got<DateTime>
     ensures { DateTimes s.now c result }
 {
     let behind_day = HOURS.width();
@@ -73,7 +67,7 @@ pub fn read_date_time(s: &[u8], c: Cursor) -> DateTimeAt
                 minutes: minutes.v,
                 seconds: seconds.v,
             };
-            return DateTimeAt { time: time, c: end };
+            return Got { v: time, c: end };
         }
     }
     one_by_one(s, c)

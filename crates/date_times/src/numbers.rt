@@ -1,12 +1,12 @@
 // The six numbers of a date and time, each read by itself.
 ghost use Rattle.date_times.specs.Times.{DateTimes};
 
-use super::{DateTime, DateTimeAt};
-use cursor::place::Cursor;
+use super::DateTime;
+use cursor::place::{Cursor, Got};
 use field_ranges::table::{DAY, HOURS, MINUTES, MONTH, YEAR};
 use ranged_numbers::ranged;
 
-pub fn one_by_one(s: &[u8], c: Cursor) -> DateTimeAt
+pub fn one_by_one(s: &[u8], c: Cursor) -> Got<DateTime>
     ensures { DateTimes s.now c result }
 {
     let year = ranged(s, c, YEAR);
@@ -25,5 +25,5 @@ pub fn one_by_one(s: &[u8], c: Cursor) -> DateTimeAt
         minutes: minutes.v,
         seconds: seconds.v,
     };
-    DateTimeAt { time: time, c: end }
+    Got { v: time, c: end }
 }

@@ -7,7 +7,6 @@ use Rattle.atn.specs.Worked.{Question, range, field, count_of, length_of, small_
 use Rattle.cursor.specs.declared.place.Cursor.{Cursor}
 use Rattle.cursor.specs.declared.place.Got.{Got}
 use Rattle.field_ranges.specs.declared.table.Range.{Range}
-use Rattle.length_determinants.specs.declared.Measured.{Measured}
 use Rattle.cursor.specs.Place.{marked}
 use Rattle.field_ranges.specs.Ranges.{width_of}
 use Rattle.field_ranges.specs.Ends.{lowest, highest}
@@ -37,7 +36,7 @@ Only (field lo hi r) a = (k : ℕ) (g : Got ℕ) → lowest k ≡ lo → highest
 -- `character_strings::size`
 Only (count_of lo hi r) a = (k : ℕ) (g : Got ℕ) → lowest k ≡ lo → highest k ≡ hi → Sized k (raw_bytes r) (from (raw_bytes r) (raw_place (width (hi - lo)))) g → of_got g ≡ a
 -- `length_determinants::length`
-Only (length_of s) a = (l : Measured) → Measures s (from s 0) l → found l.c.why l.c.marks l.count ≡ a
+Only (length_of s) a = (l : Got ℕ) → Measures s (from s 0) l → found l.c.why l.c.marks l.v ≡ a
 -- `length_determinants::small`, behind the mark that its caller makes
 Only (small_octets cs) a = (g : Got ℕ) → Smalls (small_bytes cs) (marked (from (small_bytes cs) 7) 2) g → of_got g ≡ a
 -- the entries

@@ -31,7 +31,7 @@ fn read_told_argument(s: &[u8], words: &mut [u64], x: At, byte: u8, i: u64) -> A
     let end = d.end;
     let marks = d.marks;
     if d.why == 0 {
-        let argument = a.argument;
+        let argument = a.v;
         let m = tell_argument(words, n, i, s, argument);
         return At { n: m, c: d };
     }

@@ -7,7 +7,7 @@ ghost use Rattle.field_ranges.specs.Rows.{speed_type, traffic_type, clearance_ty
 ghost use Rattle.field_ranges.specs.Ranges.{Listed};
 ghost use Rattle.enumerations.specs.Readers.{Names, Triples};
 
-use cursor::place::{Cursor, bits, mark};
+use cursor::place::{Cursor, Got, bits, mark};
 use field_ranges::table::{
     CLEARANCE_TYPE, ERROR_INFORMATION, FACILITY_FUNCTION, Range, SPEED_TYPE, TRAFFIC_TYPE,
 };
@@ -20,14 +20,8 @@ pub struct Name {
     pub at: usize,
 }
 
-#[derive(Clone, Copy)]
-pub struct NameAt {
-    pub name: Name,
-    pub c: Cursor,
-}
-
 // A name of the range; a number above it has no name and is badly formed.
-fn read_name(s: &[u8], c: Cursor, range: Range) -> NameAt
+fn read_name(s: &[u8], c: Cursor, range: Range) -> Got<Name>
     requires { Listed range × (range.lo ≡ 0) }
     ensures { Names range.row s.now c result }
 {
@@ -40,7 +34,7 @@ fn read_name(s: &[u8], c: Cursor, range: Range) -> NameAt
             second: 0,
             at: extension.c.at,
         };
-        return NameAt { name: name, c: end };
+        return Got { v: name, c: end };
     }
     let end = mark(extension.c, 2);
     let name = Name {
@@ -48,34 +42,34 @@ fn read_name(s: &[u8], c: Cursor, range: Range) -> NameAt
         second: 1,
         at: end.at,
     };
-    NameAt { name: name, c: end }
+    Got { v: name, c: end }
 }
 
-pub fn read_speed_type(s: &[u8], c: Cursor) -> NameAt
+pub fn read_speed_type(s: &[u8], c: Cursor) -> Got<Name>
     ensures { Names speed_type s.now c result }
 {
     read_name(s, c, SPEED_TYPE)
 }
 
-pub fn read_traffic_type(s: &[u8], c: Cursor) -> NameAt
+pub fn read_traffic_type(s: &[u8], c: Cursor) -> Got<Name>
     ensures { Names traffic_type s.now c result }
 {
     read_name(s, c, TRAFFIC_TYPE)
 }
 
-pub fn read_clearance_type(s: &[u8], c: Cursor) -> NameAt
+pub fn read_clearance_type(s: &[u8], c: Cursor) -> Got<Name>
     ensures { Names clearance_type s.now c result }
 {
     read_name(s, c, CLEARANCE_TYPE)
 }
 
-pub fn read_error_information(s: &[u8], c: Cursor) -> NameAt
+pub fn read_error_information(s: &[u8], c: Cursor) -> Got<Name>
     ensures { Names error_information s.now c result }
 {
     read_name(s, c, ERROR_INFORMATION)
 }
 
-pub fn read_facility_function(s: &[u8], c: Cursor) -> NameAt
+pub fn read_facility_function(s: &[u8], c: Cursor) -> Got<Name>
     ensures { Names facility_function s.now c result }
 {
     read_name(s, c, FACILITY_FUNCTION)
@@ -88,29 +82,23 @@ pub struct Triple {
     pub third: Name,
 }
 
-#[derive(Clone, Copy)]
-pub struct TripleAt {
-    pub triple: Triple,
-    pub c: Cursor,
-}
-
-pub fn read_speed_type_triple(s: &[u8], c: Cursor) -> TripleAt
+pub fn read_speed_type_triple(s: &[u8], c: Cursor) -> Got<Triple>
     ensures { Triples s.now c result }
 {
     let a = read_speed_type(s, c);
     let b = read_speed_type(s, a.c);
     let d = read_speed_type(s, b.c);
-    let first = a.name;
-    let second = b.name;
-    let third = d.name;
+    let first = a.v;
+    let second = b.v;
+    let third = d.v;
     let end = d.c;
     let triple = Triple {
         first: first,
         second: second,
         third: third,
     };
-    TripleAt {
-        triple: triple,
+    Got {
+        v: triple,
         c: end,
     }
 }

@@ -32,7 +32,7 @@ use Rattle.runs.specs.Windows.{closed_why, closed}
 use Rattle.runs.proofs.FrameLaws.{soft_went, soft_out, soft_bad}
 use Rattle.runs.proofs.AttemptLaws.{lax_ends}
 use Rattle.message.specs.Data.{data_at}
-use Rattle.forward_headers.specs.declared.HeaderAt.{HeaderAt}
+use Rattle.forward_headers.specs.declared.Header.{Header}
 use Rattle.inner_messages.specs.Parts.{lax_data}
 use Rattle.inner_strings.specs.Strings.{Lacks, Has}
 use Rattle.forward_headers.specs.Headers.{header, header_recs, Headers}
@@ -72,7 +72,7 @@ module _ (down up : List ℕ) where
   direction-read (suc zero) s u p l = refl
   direction-read (suc (suc v)) s u p l = absurd (omega arith)
 
-  module _ {s : List ℕ} {c e : Cursor} {h : HeaderAt} {g : Got ℕ} {R : List Rec} (x : Headers s c h) (pulls : Pulls s h.c 1 g) (y : Reads (carried_at g.v s) s g.c e R) where
+  module _ {s : List ℕ} {c e : Cursor} {h : Got Header} {g : Got ℕ} {R : List Rec} (x : Headers s c h) (pulls : Pulls s h.c 1 g) (y : Reads (carried_at g.v s) s g.c e R) where
     abbrev told : List Rec
     told = rec 21 0 g.v 0 h.c.at ∷ R
 
@@ -83,7 +83,7 @@ module _ (down up : List ℕ) where
         (reads_then (λ u q. ok q (rec 21 0 g.v 0 h.c.at ∷ []) 0) (λ u r. read_choice directions g.v (0, 0) (bit_of s) u r) (reads_ok _ 0 (marked-nil g.c))
         (reads_going (carried_at g.v s) (λ u r. read_choice directions g.v (0, 0) (bit_of s) u r) (λ z. direction-read g.v s g.c.end g.c.at ((known_some z pulls).below j)) y))
 
-    body_read : Reads (body_at s) s c e (header_recs s h.header 0 ++ told)
+    body_read : Reads (body_at s) s c e (header_recs s h.v 0 ++ told)
     unfolding read_fields flags all_read
     body_read =
         record {
@@ -139,20 +139,20 @@ forward_soft : (down up s : List ℕ) {c d : Cursor} {R : List Rec} → Ran (λ 
 unfolding forward_at read
 forward_soft down up s y = y
 
-module _ (down up : List ℕ) {s : List ℕ} {c : Cursor} {h : HeaderAt} {g : Got ℕ} {n : ℕ} {w : List ℕ} (goes : c.why ≡ 0) (x : Headers s c h) (pulls : Pulls s h.c 1 g) where
+module _ (down up : List ℕ) {s : List ℕ} {c : Cursor} {h : Got Header} {g : Got ℕ} {n : ℕ} {w : List ℕ} (goes : c.why ≡ 0) (x : Headers s c h) (pulls : Pulls s h.c 1 g) where
   pub forward_lost : {b : ℕ} {d e : Cursor} → Lacks s g.c d → Forgives d e → Runs b (forward_at down up s) s c n w w (record { n = n; c = e })
   forward_lost {b} lacks f =
       let tells = tells_lost (data_of g.v down up) {n = n} {w = w} (data_of_placeless g.v down up) lacks in
       record { recs = []; ran = λ i. forward_soft down up s (soft_forgiven (body_at down up s) ((body_read down up x pulls tells.reads).led i) goes lacks.stops f); told = told-within b (omega arith) told_none }
 
-  pub forward-read : {from to by a k : ℕ} {window d e : Cursor} {w₁ w₂ w₃ w₄ : List ℕ} {r : At} → length s ≤ 65536 → Has s g.c from to window d → Told 71 w w₁ n a (header_recs s h.header 0) → Told 1 w₁ w₂ a k (rec 21 0 g.v 0 h.c.at ∷ [])
+  pub forward-read : {from to by a k : ℕ} {window d e : Cursor} {w₁ w₂ w₃ w₄ : List ℕ} {r : At} → length s ≤ 65536 → Has s g.c from to window d → Told 71 w w₁ n a (header_recs s h.v 0) → Told 1 w₁ w₂ a k (rec 21 0 g.v 0 h.c.at ∷ [])
       → Runs 236050 (lax_data (carried_table g.v down up) (bytes s from to)) (bytes s from to) window k w₂ w₃ r → by ≡ from * 8 → w₄ ≡ raised_places by (r.n - k) (space k) w₃ → e ≡ closed d r.c → Runs 236122 (forward_at down up s) s c n w w₄ (record { n = r.n; c = e })
   unfolding closed lax_data
   forward-read {from} {to} {by} {d = d} {r = r} short has t₁ t₂ y m v q =
       let eight : by ≡ 8 * from = omega (arith, m) in
       let tells = tells_read (data_of g.v down up) (data_of_placeless g.v down up) short has (given-up (carried_table g.v down up) y) in
       record {
-        recs = header_recs s h.header 0 ++ (rec 21 0 g.v 0 h.c.at ∷ tells.recs);
+        recs = header_recs s h.v 0 ++ (rec 21 0 g.v 0 h.c.at ∷ tells.recs);
         ran = λ i.
             let ends = lax_ends (data_at (carried_table g.v down up) (bytes s from to)) 7 false (window_goes has) (y.ran (window_inside has)) in
             let neither = closed_neither r.c.why ends.0 ends.1 in

@@ -70,7 +70,7 @@ pub fn read_forward(s: &[u8], words: &mut [u64], n: usize, c: Cursor, down: &[u8
         return At { n: n, c: c };
     }
     let h = read_header(s, c);
-    let header = h.header;
+    let header = h.v;
     let g = bits(s, h.c, 1);
     match find_string(s, g.c) {
         Inner::Lost(d) => {

@@ -9,7 +9,8 @@ use Rattle.atn.specs.Format.{span}
 use Rattle.atn.specs.Reading.{rec, Ctx, Ans, ok, pull, spanned, flags, read}
 use Rattle.atn.proofs.Steps.{sized_go}
 use Rattle.cursor.specs.declared.place.Cursor.{Cursor}
-use Rattle.character_strings.specs.declared.TextAt.{TextAt}
+use Rattle.cursor.specs.declared.place.Got.{Got}
+use Rattle.character_strings.specs.declared.Text.{Text}
 use Rattle.length_determinants.specs.Lengths.{Passes}
 use Rattle.field_ranges.specs.Rows as rows
 use Rattle.field_ranges.specs.Ends.{lowest, highest}
@@ -18,7 +19,7 @@ use Rattle.character_strings.specs.Texts.{Texts}
 use Rattle.cursor.proofs.Laws.{reads_same}
 use Rattle.length_determinants.proofs.LengthLaws.{passes_ok}
 use Rattle.cursor.proofs.FormatLaws.{all_read, takes_plain, fields_must, fields_last}
-use Rattle.date_times.specs.declared.DateTimeAt.{DateTimeAt}
+use Rattle.date_times.specs.declared.DateTime.{DateTime}
 use Rattle.date_times.specs.Times.{DateTimes}
 use Rattle.forward_headers.specs.Headers.{Headers}
 
@@ -41,7 +42,7 @@ module _ {s : List ℕ} {c d : Cursor} (passes : Passes c 24 d) where
       same : (x : Ctx) → Inside s c → pull (bit_of s) c.end c.at 24 (λ _. ok (c.at + 24) (rec 20 x.0 c.at 24 c.at ∷ []) 0) ≡ read (span 20 1 24 24) x (bit_of s) c.end c.at
       same x i = sym (sized_go (bit_of s) c.end c.at 24 24 24 (bits x) (omega arith) (omega arith) tt (omega (arith, i.0)) ∙ ap (λ (q : ℕ). bits x 24 q) (omega arith))
 
-pub header_read : {s : List ℕ} {c d : Cursor} {t : DateTimeAt} {x : TextAt} → DateTimes s c t → Texts rows.flight_size s t.c x → Passes x.c 24 d
-    → Headers s c (record { header = record { time = t.time; name = x.text; address = x.c.at }; c = d })
+pub header_read : {s : List ℕ} {c d : Cursor} {t : Got DateTime} {x : Got Text} → DateTimes s c t → Texts rows.flight_size s t.c x → Passes x.c 24 d
+    → Headers s c (record { header = record { time = t.v; name = x.v; address = x.c.at }; c = d })
 unfolding lowest highest flags all_read
 header_read h g p = record { takes = takes_plain refl refl (fields_must h.takes (fields_must (g.text 19) (fields_last (address p)))); few = g.few; held = g.held }

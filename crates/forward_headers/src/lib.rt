@@ -8,7 +8,7 @@ ghost use Rattle.records.specs.Told.{Told};
 
 use character_strings::{Text, ia5};
 use cpdlc_tags::{AIRCRAFT_ADDRESS, AIRCRAFT_ID};
-use cursor::place::Cursor;
+use cursor::place::{Cursor, Got};
 use date_times::{DateTime, read_date_time, tell_date_time};
 use field_ranges::table::FLIGHT_SIZE;
 use length_determinants::pass;
@@ -24,19 +24,13 @@ pub struct Header {
     pub address: usize,
 }
 
-#[derive(Clone, Copy)]
-pub struct HeaderAt {
-    pub header: Header,
-    pub c: Cursor,
-}
-
-pub fn read_header(s: &[u8], c: Cursor) -> HeaderAt
+pub fn read_header(s: &[u8], c: Cursor) -> Got<Header>
     ensures { Headers s.now c result }
 {
     let t = read_date_time(s, c);
-    let time = t.time;
+    let time = t.v;
     let id = ia5(s, t.c, FLIGHT_SIZE);
-    let name = id.text;
+    let name = id.v;
     let d = id.c;
     let end = pass(d, Bits(24));
     let header = Header {
@@ -44,8 +38,8 @@ pub fn read_header(s: &[u8], c: Cursor) -> HeaderAt
         name: name,
         address: d.at,
     };
-    HeaderAt {
-        header: header,
+    Got {
+        v: header,
         c: end,
     }
 }

@@ -28,7 +28,7 @@ use Rattle.cursor.specs.Place.{Pulled, stuck, short, got, Pulls, Led, stayed, we
 use Rattle.character_strings.specs.Texts.{text_recs}
 use Rattle.character_strings.proofs.TextLaws.{coded-nil}
 use Rattle.pdu_alternatives.specs.Alternatives.{alternatives}
-use Rattle.forward_headers.specs.declared.HeaderAt.{HeaderAt}
+use Rattle.forward_headers.specs.declared.Header.{Header}
 use Rattle.forward_headers.specs.Headers.{header, header_recs, Headers}
 use Rattle.records.specs.Told.{Told}
 use Rattle.spare_words.proofs.KeptLaws.{told-kept}
@@ -147,7 +147,7 @@ module _ (down up s : List ℕ) {p : ℕ} {R : List Rec} (clean : read_frame (gr
   pub clean-nameless : (g.v ≡ 4 → ⊥) → nameless 19 p ≡ name_in p R
   clean-nameless n = sym (other_alternative down up s clean (λ q. n (pulled.0 ∙ q)))
 
-  module _ (forwards : g.v ≡ 4) {h : HeaderAt} (heads : Headers s g.c h) where
+  module _ (forwards : g.v ≡ 4) {h : Got Header} (heads : Headers s g.c h) where
     index : uint (bit_of s) 1 3 ≡ 4
     index = sym pulled.0 ∙ forwards
 
@@ -157,25 +157,25 @@ module _ (down up s : List ℕ) {p : ℕ} {R : List Rec} (clean : read_frame (gr
     abbrev chars : List ℕ
     chars = characters down up s clean index
 
-    same-header : tell header head.val (0, 0) 4 ≡ header_recs s h.header 0
+    same-header : tell header head.val (0, 0) 4 ≡ header_recs s h.v 0
     same-header = go (rw pulled.1 at ((heads.takes.took (0, 0)).led (rw pulled.1 ((begins down up s clean).there, omega arith))))
       where
-        go : Led (λ e q. read header (0, 0) (bit_of s) e q) (record { at = 4; end = length s * 8; why = 0; marks = 0 }) h.c (header_recs s h.header 0) → tell header head.val (0, 0) 4 ≡ header_recs s h.header 0
+        go : Led (λ e q. read header (0, 0) (bit_of s) e q) (record { at = 4; end = length s * 8; why = 0; marks = 0 }) h.c (header_recs s h.v 0) → tell header head.val (0, 0) 4 ≡ header_recs s h.v 0
         go (stayed n q) = absurd (n refl)
         go (went q m z a l x) = let y = head.reads in cc
         go (failed w q m S n z a l x) = never (sym a ∙ head.reads)
 
-    name-record : text_recs 19 0 s h.header.name ≡ rec 19 0 (octets 8 chars) (length chars) h.header.name.from ∷ []
+    name-record : text_recs 19 0 s h.v.name ≡ rec 19 0 (octets 8 chars) (length chars) h.v.name.from ∷ []
     unfolding text_recs tell tell_fields head
     name-record =
         let sized = head.in_range.1.0 in
         let x = same-header in
         lone_pack _ _ _ _ (omega (arith, sized.0)) sized.1 (ap (λ (l : List Rec). drop 6 l) (rw (coded-nil chars, one-pack 19 0 _ chars (omega (arith, sized.0)) sized.1) at x))
 
-    pub clean-named : {j m : ℕ} {w k : List ℕ} → length w ≡ 5 → Told j w k 0 m (text_recs 19 0 s h.header.name) → record { number = 0; reach = p; lacked = 0; text = get_or k 2 0; size = get_or k 3 0 } ≡ name_in p R
+    pub clean-named : {j m : ℕ} {w k : List ℕ} → length w ≡ 5 → Told j w k 0 m (text_recs 19 0 s h.v.name) → record { number = 0; reach = p; lacked = 0; text = get_or k 2 0; size = get_or k 3 0 } ≡ name_in p R
     unfolding flat need
     clean-named {k = k} l told =
-        let t : take 5 k ≡ 19 ∷ 0 ∷ octets 8 chars ∷ length chars ∷ h.header.name.from ∷ [] = told-kept (rw name-record at told) (omega (arith, told.room)) in
+        let t : take 5 k ≡ 19 ∷ 0 ∷ octets 8 chars ∷ length chars ∷ h.v.name.from ∷ [] = told-kept (rw name-record at told) (omega (arith, told.room)) in
         let i : get_or k 2 0 ≡ octets 8 chars = sym (get_or-take 5 k 2 0 (omega arith)) ∙ rw t in
         let n : get_or k 3 0 ≡ length chars = sym (get_or-take 5 k 3 0 (omega arith)) ∙ rw t in
         rw (forward-message down up s clean index, i, n)

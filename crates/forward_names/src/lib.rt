@@ -83,7 +83,7 @@ fn clean_name(frame: &[u8], reach: usize) -> Named
         return no_name(19, reach, 0);
     }
     let h = read_header(frame, choice.c);
-    let header = h.header;
+    let header = h.v;
     let name = header.name;
     let mut words = [0u64; 5];
     tell_text(&mut words, 0, AIRCRAFT_ID, 0, frame, name);

@@ -10,46 +10,34 @@ use Rattle.atn.specs.Reading.{rec, read_choice}
 use Rattle.atn.specs.Messages as message
 use Rattle.cursor.specs.declared.place.Cursor.{Cursor}
 use Rattle.cursor.specs.declared.place.Got.{Got}
-use Rattle.character_strings.specs.declared.TextAt.{TextAt}
+use Rattle.character_strings.specs.declared.Text.{Text}
 use Rattle.cursor.specs.Place.{Pulls, Takes}
 use Rattle.field_ranges.specs.Rows as rows
 use Rattle.field_ranges.specs.Ends.{lowest, highest}
 use Rattle.ranged_numbers.specs.Numbers.{rows_then, Ranged}
 use Rattle.character_strings.specs.Texts.{Channel, channel_recs}
 use Rattle.ranged_numbers.proofs.ChoiceLaws.{takes_index, takes_row}
-use Rattle.frequencies.specs.declared.Frequency.{Frequency}
-use Rattle.frequencies.specs.Records.{frequency_recs, number_or_channel}
+use Rattle.frequencies.specs.declared.Frequency.TheVariants.{Number}
+use Rattle.frequencies.specs.declared.Frequency.TheVariants as frequency
+use Rattle.frequencies.specs.Records.{frequency_recs}
 use Rattle.frequencies.specs.Readers.{Frequencies}
 use Rattle.frequencies.proofs.Indices.{pulls_last}
 
 abbrev behind : Alts
 behind = message.numeric_string 59 73 12 12 ∥ none_left
 
--- a number below 3, a channel from 3 on
-pub number_recs : (k : ℕ) (s : List ℕ) (v : Frequency) (n : ℕ) → k < 3 → number_or_channel k s v n ≡ rec 58 n v.number 0 v.number_at ∷ []
-number_recs zero s v n h = refl
-number_recs (suc zero) s v n h = refl
-number_recs (suc (suc zero)) s v n h = refl
-number_recs (suc (suc (suc k))) s v n h = absurd (omega arith)
-
-pub channel-recs : (k : ℕ) (s : List ℕ) (v : Frequency) (n : ℕ) → 3 ≤ k → number_or_channel k s v n ≡ channel_recs 59 73 n s v.channel
-channel-recs zero s v n h = absurd (omega arith)
-channel-recs (suc zero) s v n h = absurd (omega arith)
-channel-recs (suc (suc zero)) s v n h = absurd (omega arith)
-channel-recs (suc (suc (suc k))) s v n h = refl
-
 module _ {s : List ℕ} {c : Cursor} (g : Got ℕ) (p : Pulls s c 2 g) where
   pub frequency_number : (r : Got ℕ) → g.v < 3 → Ranged (rows.frequency_0 + g.v) s g.c r
-      → Frequencies s c (record { frequency = record { kind = g.v; kind_at = c.at; number = r.v; number_at = g.c.at; channel = record { from = 0; at = 0; len = 0 } }; c = r.c })
+      → Frequencies s c (record { v = Number g.v c.at r.v g.c.at; c = r.c })
   unfolding frequency_recs lowest highest width width_in encoding.highest count
   frequency_number r l h =
       let y : Takes message.frequency s c r.c (λ n. rec 57 n g.v 0 c.at ∷ rec 58 n r.v 0 g.c.at ∷ []) = takes_row 57 58 rows.frequency_0 3 behind g p r l h in
       record {
-        reads = record { took = λ x. rw (number_recs g.v s _ x.0 l) (y.took x) };
-        held = record { few = omega arith; there = record { there = omega arith; fits = omega arith } };
+        reads = y;
+        held = tt;
       }
 
-  pub frequency-channel : (r : TextAt) → 3 ≤ g.v → Channel s g.c r → Frequencies s c (record { frequency = record { kind = 3; kind_at = c.at; number = 0; number_at = 0; channel = r.text }; c = r.c })
+  pub frequency-channel : (r : Got Text) → 3 ≤ g.v → Channel s g.c r → Frequencies s c (record { v = frequency.Channel c.at r.v; c = r.c })
   unfolding read_choice frequency_recs lowest highest width width_in encoding.highest count
   frequency-channel r l h =
       record {

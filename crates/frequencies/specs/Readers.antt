@@ -2,11 +2,12 @@
 use Rattle.std.specs.Prelude.{List, ℕ}
 use Rattle.atn.specs.Messages as message
 use Rattle.cursor.specs.declared.place.Cursor.{Cursor}
+use Rattle.cursor.specs.declared.place.Got.{Got}
 use Rattle.cursor.specs.Place.{Takes}
-use Rattle.frequencies.specs.declared.FrequencyAt.{FrequencyAt}
-use Rattle.frequencies.specs.Records.{frequency_recs, HeldChannel}
+use Rattle.frequencies.specs.declared.Frequency.{Frequency}
+use Rattle.frequencies.specs.Records.{frequency_recs, HeldFrequency}
 
-pub record Frequencies (s : List ℕ) (c : Cursor) (r : FrequencyAt) : Type 0 where
-  pub reads : Takes message.frequency s c r.c (frequency_recs s r.frequency)
+pub record Frequencies (s : List ℕ) (c : Cursor) (r : Got Frequency) : Type 0 where
+  pub reads : Takes message.frequency s c r.c (frequency_recs s r.v)
   -- whatever was read
-  pub held : HeldChannel s r.frequency.channel
+  pub held : HeldFrequency s r.v

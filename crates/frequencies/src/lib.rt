@@ -4,27 +4,26 @@
 ghost use Rattle.frequencies.specs.Readers.{Frequencies};
 
 use character_strings::{Text, channel};
-use cursor::place::{Cursor, bits};
+use cursor::place::{Cursor, Got, bits};
 use field_ranges::table::{FREQUENCY_0, range_at};
 use ranged_numbers::ranged;
 
-// kind 3 has a channel and no number, every other a number and no channel
+// Each with the place of its kind: a number, which has a kind below 3 and starts at `number_at`, or the digits of a channel, which is kind 3.
 #[derive(Clone, Copy)]
-pub struct Frequency {
-    pub kind: u64,
-    pub kind_at: usize,
-    pub number: u64,
-    pub number_at: usize,
-    pub channel: Text,
+pub enum Frequency {
+    Number {
+        kind: u64,
+        kind_at: usize,
+        number: u64,
+        number_at: usize,
+    },
+    Channel {
+        kind_at: usize,
+        digits: Text,
+    },
 }
 
-#[derive(Clone, Copy)]
-pub struct FrequencyAt {
-    pub frequency: Frequency,
-    pub c: Cursor,
-}
-
-pub fn read_frequency(s: &[u8], c: Cursor) -> FrequencyAt
+pub fn read_frequency(s: &[u8], c: Cursor) -> Got<Frequency>
     ensures { Frequencies s.now c result }
 {
     let index = bits(s, c, 2);
@@ -32,36 +31,22 @@ pub fn read_frequency(s: &[u8], c: Cursor) -> FrequencyAt
     if kind < 3 {
         let range = range_at(FREQUENCY_0.row + kind as usize);
         let number = ranged(s, index.c, range);
-        let end = number.c;
-        let none = Text {
-            from: 0,
-            at: 0,
-            len: 0,
-        };
-        let frequency = Frequency {
-            kind: kind,
-            kind_at: c.at,
-            number: number.v,
-            number_at: index.c.at,
-            channel: none,
-        };
-        return FrequencyAt {
-            frequency: frequency,
-            c: end,
+        return Got {
+            v: Frequency::Number {
+                kind,
+                kind_at: c.at,
+                number: number.v,
+                number_at: index.c.at,
+            },
+            c: number.c,
         };
     }
     let satellite = channel(s, index.c);
-    let digits = satellite.text;
-    let end = satellite.c;
-    let frequency = Frequency {
-        kind: 3,
-        kind_at: c.at,
-        number: 0,
-        number_at: 0,
-        channel: digits,
-    };
-    FrequencyAt {
-        frequency: frequency,
-        c: end,
+    Got {
+        v: Frequency::Channel {
+            kind_at: c.at,
+            digits: satellite.v,
+        },
+        c: satellite.c,
     }
 }

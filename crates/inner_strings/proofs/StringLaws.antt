@@ -12,7 +12,7 @@ use Rattle.atn.specs.Format.{Fmt, inner}
 use Rattle.atn.specs.Reading.{read}
 use Rattle.atn.proofs.Shift.{placeless}
 use Rattle.cursor.specs.declared.place.Cursor.{Cursor}
-use Rattle.length_determinants.specs.declared.Measured.{Measured}
+use Rattle.cursor.specs.declared.place.Got.{Got}
 use Rattle.length_determinants.specs.Lengths.{Measures, Passes}
 use Rattle.cursor.specs.Place.{stopped, Inside}
 use Rattle.records.specs.Space.{space}
@@ -27,10 +27,10 @@ use Rattle.inner_strings.specs.Strings.{Lacks, Has, Strings}
 
 ---------------------------------------------------------------- where it stands
 
-pub string_stops : {s : List ℕ} {c d : Cursor} {l : Measured} → Measures s c l → Passes l.c l.count d → (d.why ≡ 0 → ⊥) → Lacks s c d
+pub string_stops : {s : List ℕ} {c d : Cursor} {l : Got ℕ} → Measures s c l → Passes l.c l.v d → (d.why ≡ 0 → ⊥) → Lacks s c d
 string_stops {d = d} {l} measures passes h = record { length_read = l; behind = d; measures = measures; passes = passes; stops = h; same = λ _. refl; off = λ z. absurd (h z) }
 
-string_off : {s : List ℕ} {c d e : Cursor} {l : Measured} → Measures s c l → Passes l.c l.count d → d.why ≡ 0 → e ≡ stopped d 4 0 → length s * 8 < l.c.at + l.count → Lacks s c e
+string_off : {s : List ℕ} {c d e : Cursor} {l : Got ℕ} → Measures s c l → Passes l.c l.v d → d.why ≡ 0 → e ≡ stopped d 4 0 → length s * 8 < l.c.at + l.v → Lacks s c e
 unfolding stopped
 string_off {d = d} {l = l} measures passes goes q o =
     record { length_read = l; behind = d; measures = measures; passes = passes; stops = λ z. (let y = rw (q, goes) at z in omega arith); same = λ h. absurd (h goes); off = λ _. o }
@@ -39,11 +39,11 @@ string_off {d = d} {l = l} measures passes goes q o =
 pub near : {t : Bool} (p n : ℕ) → n ≤ 65536 → t ≡ leb p (n * 8) → t ≡ true → p ≤ 524288
 near p n h e q = let i = leb-true p (n * 8) (sym e ∙ q) in omega arith
 
-module _ {s : List ℕ} {c d : Cursor} {l : Measured} {t : Bool} (measures : Measures s c l) (passes : Passes l.c l.count d) (goes : d.why ≡ 0) (p : t ≡ leb d.at (length s * 8)) where
+module _ {s : List ℕ} {c d : Cursor} {l : Got ℕ} {t : Bool} (measures : Measures s c l) (passes : Passes l.c l.v d) (goes : d.why ≡ 0) (p : t ≡ leb d.at (length s * 8)) where
   pub string_ends_behind : {e : Cursor} → t ≡ false → e ≡ stopped d 4 0 → Lacks s c e
   string_ends_behind q x = string_off measures passes goes x (omega (arith, leb-false d.at (length s * 8) (sym p ∙ q), passes.moved goes))
 
-  pub string-held : t ≡ true → Has s c (l.c.at / 8) ((d.at + 7) / 8) (record { at = l.c.at % 8; end = l.c.at % 8 + l.count; why = 0; marks = d.marks }) d
+  pub string-held : t ≡ true → Has s c (l.c.at / 8) ((d.at + 7) / 8) (record { at = l.c.at % 8; end = l.c.at % 8 + l.v; why = 0; marks = d.marks }) d
   string-held q =
       let i = leb-true d.at (length s * 8) (sym p ∙ q) in
       let e = passes.moved goes in

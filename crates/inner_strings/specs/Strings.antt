@@ -1,14 +1,14 @@
 -- An inner string: its length, and the bits behind it.
 use Rattle.std.specs.Prelude.{◌≡◌, List, ℕ, ◌+◌, ◌*◌, ◌/◌, ◌%◌, ◌≤◌, ◌<◌, length}
 use Rattle.cursor.specs.declared.place.Cursor.{Cursor}
-use Rattle.length_determinants.specs.declared.Measured.{Measured}
+use Rattle.cursor.specs.declared.place.Got.{Got}
 use Rattle.length_determinants.specs.Lengths.{Measures, Passes}
 use Rattle.inner_strings.specs.declared.Inner.{Inner}
 use Rattle.inner_strings.specs.declared.Inner.TheVariants.{Lost, Found}
 
 -- the reading stops before the string's end; where it would not, the frame does not hold the string, to which no cursor in the frame comes
 pub record Lacks (s : List ℕ) (c d : Cursor) : Type 0 where
-  pub length_read : Measured
+  pub length_read : Got ℕ
   pub behind : Cursor
   pub measures : Measures s c length_read
   pub passes : Passes length_read.c length_read.count behind
@@ -18,7 +18,7 @@ pub record Lacks (s : List ℕ) (c d : Cursor) : Type 0 where
 
 -- its bits stand in the bytes from..to, where they are the window, and d stands behind them
 pub record Has (s : List ℕ) (c : Cursor) (from to : ℕ) (window d : Cursor) : Type 0 where
-  pub length_read : Measured
+  pub length_read : Got ℕ
   pub measures : Measures s c length_read
   pub passes : Passes length_read.c length_read.count d
   pub goes : d.why ≡ 0

@@ -21,7 +21,7 @@ pub fn find_string(s: &[u8], c: Cursor) -> Inner
     ensures { Strings s.now c result }
 {
     let l = length(s, c);
-    let count = l.count;
+    let count = l.v;
     let first = l.c;
     let at = first.at;
     let behind = pass(first, Bits(count));

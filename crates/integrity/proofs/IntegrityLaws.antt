@@ -7,7 +7,6 @@ use Rattle.x691.specs.Bits.{bit_of}
 use Rattle.atn.specs.Format.{any_span}
 use Rattle.atn.specs.Reading.{rec, Ans, or, mark, spanned, read}
 use Rattle.cursor.specs.declared.place.Cursor.{Cursor}
-use Rattle.length_determinants.specs.declared.Measured.{Measured}
 use Rattle.cursor.specs.declared.place.Got.{Got}
 use Rattle.cursor.specs.Place.{put, Inside, got, Pulls, Led, Takes}
 use Rattle.length_determinants.specs.Lengths.{Measures, Passes}
@@ -29,14 +28,14 @@ nothing_passed c z = record { pulls = λ s. record { gave = λ i. got z (omega (
     stays : (p : ℕ) → p ≡ c.at → c ≡ put c p 0 c.marks
     stays p q = rw q (ap (λ (w : ℕ). put c c.at w c.marks) z)
 
-module _ {s : List ℕ} {c d : Cursor} {l : Measured} (measures : Measures s c l) (passes : Passes l.c l.count d) where
+module _ {s : List ℕ} {c d : Cursor} {l : Got ℕ} (measures : Measures s c l) (passes : Passes l.c l.v d) where
   abbrev reading : ℕ → ℕ → Ans
   reading e p = read (any_span 18 1) (0, 0) (bit_of s) e p
 
-  led : Inside s c → Led reading c d (spanned 18 0 c.at l.c.at l.count)
+  led : Inside s c → Led reading c d (spanned 18 0 c.at l.c.at l.v)
   led i =
-      let z : l.count * 1 ≡ l.count = omega arith in
-      let t : Takes (any_span 18 1) s c d (λ n. spanned 18 n c.at l.c.at (l.count * 1)) = takes_any_span 18 1 measures (rw z passes) in
+      let z : l.v * 1 ≡ l.v = omega arith in
+      let t : Takes (any_span 18 1) s c d (λ n. spanned 18 n c.at l.c.at (l.v * 1)) = takes_any_span 18 1 measures (rw z passes) in
       rw z at ((t.took (0, 0)).led i)
 
   pub integrity-cut : {n : ℕ} {w : List ℕ} → c.why ≡ 0 → d.why % 16 ≡ 4 → Runs 1 (integrity s) s c n w w (record { n = n; c = put d d.at 7 d.marks })
@@ -47,13 +46,13 @@ module _ {s : List ℕ} {c d : Cursor} {l : Measured} (measures : Measures s c l
   unfolding integrity read mark
   integrity-over h z = record { recs = []; ran = λ i. soft_bad 7 reading (led i) h z; told = told-within 1 (omega arith) told_none }
 
-  pub integrity-none : {n : ℕ} {w : List ℕ} → c.why ≡ 0 → (d.why % 16 ≡ 4 → ⊥) → (d.why ≡ 5 → ⊥) → l.count ≡ 0 → Runs 1 (integrity s) s c n w w (record { n = n; c = d })
+  pub integrity-none : {n : ℕ} {w : List ℕ} → c.why ≡ 0 → (d.why % 16 ≡ 4 → ⊥) → (d.why ≡ 5 → ⊥) → l.v ≡ 0 → Runs 1 (integrity s) s c n w w (record { n = n; c = d })
   unfolding integrity read spanned
   integrity-none h n₄ n₅ z = record { recs = []; ran = λ i. soft_went 7 reading (rw z at (led i)) h n₄ n₅; told = told-within 1 (omega arith) told_none }
 
-  pub integrity-some : {n m : ℕ} {w w' : List ℕ} → c.why ≡ 0 → (d.why % 16 ≡ 4 → ⊥) → (d.why ≡ 5 → ⊥) → (l.count ≡ 0 → ⊥) → Told 1 w w' n m (rec 18 0 l.c.at l.count c.at ∷ []) → Runs 1 (integrity s) s c n w w' (record { n = m; c = d })
+  pub integrity-some : {n m : ℕ} {w w' : List ℕ} → c.why ≡ 0 → (d.why % 16 ≡ 4 → ⊥) → (d.why ≡ 5 → ⊥) → (l.v ≡ 0 → ⊥) → Told 1 w w' n m (rec 18 0 l.c.at l.v c.at ∷ []) → Runs 1 (integrity s) s c n w w' (record { n = m; c = d })
   unfolding integrity read spanned
-  integrity-some {n} {m} {w} {w'} h n₄ n₅ z t = record { recs = spanned 18 0 c.at l.c.at l.count; ran = λ i. soft_went 7 reading (led i) h n₄ n₅; told = go l.count z t }
+  integrity-some {n} {m} {w} {w'} h n₄ n₅ z t = record { recs = spanned 18 0 c.at l.c.at l.v; ran = λ i. soft_went 7 reading (led i) h n₄ n₅; told = go l.v z t }
     where
       go : (k : ℕ) → (k ≡ 0 → ⊥) → Told 1 w w' n m (rec 18 0 l.c.at k c.at ∷ []) → Told 1 w w' n m (spanned 18 0 c.at l.c.at k)
       go zero y u = absurd (y refl)

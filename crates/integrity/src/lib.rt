@@ -22,7 +22,7 @@ pub fn read_integrity(s: &[u8], words: &mut [u64], n: usize, c: Cursor) -> At
     let l = length(s, c);
     let first = l.c;
     let at = first.at;
-    let end = pass(first, Bits(l.count));
+    let end = pass(first, Bits(l.v));
     let place = end.at;
     let window = end.end;
     let marks = end.marks;
@@ -44,7 +44,7 @@ pub fn read_integrity(s: &[u8], words: &mut [u64], n: usize, c: Cursor) -> At
         };
         return At { n: n, c: over };
     }
-    if l.count == 0 {
+    if l.v == 0 {
         return At { n: n, c: end };
     }
     let m = emit(
@@ -53,7 +53,7 @@ pub fn read_integrity(s: &[u8], words: &mut [u64], n: usize, c: Cursor) -> At
         INTEGRITY_CHECK,
         0,
         at as u64,
-        l.count as u64,
+        l.v as u64,
         c.at,
     );
     At { n: m, c: end }

@@ -44,7 +44,7 @@ fn put_value(s: &[u8], words: &mut [u64], n: usize, c: Cursor, place: u64) -> At
 {
     let at = c.at;
     let a = read_leg(s, c);
-    let x = a.leg;
+    let x = a.v;
     let d = a.c;
     if d.why != 0 {
         return At { n: n, c: d };

@@ -5,16 +5,15 @@ use Rattle.atn.specs.Reading.{Rec, rec}
 use Rattle.atn.specs.Messages as message
 use Rattle.atn.specs.Tags as tag
 use Rattle.cursor.specs.declared.place.Cursor.{Cursor}
+use Rattle.cursor.specs.declared.place.Got.{Got}
 use Rattle.cursor.specs.Place.{Takes}
 use Rattle.character_strings.specs.Texts.{text_recs}
 use Rattle.quantities.specs.Records.{quantity_recs}
 use Rattle.angles.specs.Angles.{pair_recs}
 use Rattle.named_places.specs.Names.{Held, published_recs}
 use Rattle.legs.specs.declared.Bearing.{Bearing}
-use Rattle.legs.specs.declared.BearingAt.{BearingAt}
 use Rattle.legs.specs.declared.Leg.{Leg}
 use Rattle.legs.specs.declared.Leg.TheVariants.{Place, Coordinates, Between, Designator, Unread}
-use Rattle.legs.specs.declared.LegAt.{LegAt}
 
 -- a place and its bearing
 abbrev pub bearing : Fmt
@@ -47,15 +46,15 @@ HeldLeg s (Between v w) = Held s v.place.named.name × Held s w.place.named.name
 HeldLeg s (Designator v) = Held s v
 HeldLeg s Unread = Unit {0}
 
-pub record Bearings (s : List ℕ) (c : Cursor) (r : BearingAt) : Type 0 where
-  pub reads : Takes bearing s c r.c (bearing_recs s r.bearing)
-  pub held : Held s r.bearing.place.named.name
+pub record Bearings (s : List ℕ) (c : Cursor) (r : Got Bearing) : Type 0 where
+  pub reads : Takes bearing s c r.c (bearing_recs s r.v)
+  pub held : Held s r.v.place.named.name
 
 -- one that goes on to the distance and stops there
 pub record Rangings (s : List ℕ) (c d : Cursor) : Type 0 where
   pub reads : (T : ℕ → List Rec) → Takes ranging s c d T
   pub stops : d.why ≡ 0 → ⊥
 
-pub record Legs (s : List ℕ) (c : Cursor) (r : LegAt) : Type 0 where
-  pub reads : Takes route_information s c r.c (leg_recs s c.at r.leg)
-  pub held : HeldLeg s r.leg
+pub record Legs (s : List ℕ) (c : Cursor) (r : Got Leg) : Type 0 where
+  pub reads : Takes route_information s c r.c (leg_recs s c.at r.v)
+  pub held : HeldLeg s r.v

@@ -5,7 +5,7 @@ ghost use Rattle.legs.specs.Legs.{Bearings, Rangings, Legs};
 
 use angles::{Pair, read_latlon};
 use character_strings::{Text, ia5};
-use cursor::place::{Cursor, bits, stop};
+use cursor::place::{Cursor, Got, bits, stop};
 use field_ranges::table::ROUTE_SIZE;
 use named_places::{Published, read_published};
 use quantities::{Quantity, read_degrees};
@@ -17,12 +17,6 @@ pub struct Bearing {
 }
 
 #[derive(Clone, Copy)]
-pub struct BearingAt {
-    pub bearing: Bearing,
-    pub c: Cursor,
-}
-
-#[derive(Clone, Copy)]
 pub enum Leg {
     Place(Published),
     Coordinates(Pair),
@@ -31,26 +25,20 @@ pub enum Leg {
     Unread,
 }
 
-#[derive(Clone, Copy)]
-pub struct LegAt {
-    pub leg: Leg,
-    pub c: Cursor,
-}
-
-fn read_bearing(s: &[u8], c: Cursor) -> BearingAt
+fn read_bearing(s: &[u8], c: Cursor) -> Got<Bearing>
     ensures { Bearings s.now c result }
 {
     let place = read_published(s, c);
     let degrees = read_degrees(s, place.c);
-    let p = place.published;
-    let q = degrees.quantity;
+    let p = place.v;
+    let q = degrees.v;
     let end = degrees.c;
     let bearing = Bearing {
         place: p,
         degrees: q,
     };
-    BearingAt {
-        bearing: bearing,
+    Got {
+        v: bearing,
         c: end,
     }
 }
@@ -64,7 +52,7 @@ fn read_ranging(s: &[u8], c: Cursor) -> Cursor
     stop(degrees.c, 6, 0)
 }
 
-pub fn read_leg(s: &[u8], c: Cursor) -> LegAt
+pub fn read_leg(s: &[u8], c: Cursor) -> Got<Leg>
     ensures { Legs s.now c result }
 {
     let index = bits(s, c, 3);
@@ -73,8 +61,8 @@ pub fn read_leg(s: &[u8], c: Cursor) -> LegAt
         let a = read_published(s, index.c);
         let x = a.published;
         let end = a.c;
-        return LegAt {
-            leg: Leg::Place(x),
+        return Got {
+            v: Leg::Place(x),
             c: end,
         };
     }
@@ -82,8 +70,8 @@ pub fn read_leg(s: &[u8], c: Cursor) -> LegAt
         let a = read_latlon(s, index.c);
         let x = a.pair;
         let end = a.c;
-        return LegAt {
-            leg: Leg::Coordinates(x),
+        return Got {
+            v: Leg::Coordinates(x),
             c: end,
         };
     }
@@ -91,32 +79,32 @@ pub fn read_leg(s: &[u8], c: Cursor) -> LegAt
         let a = read_bearing(s, index.c);
         let b = read_bearing(s, a.c);
         let x = a.bearing;
-        let y = b.bearing;
+        let y = b.v;
         let end = b.c;
-        return LegAt {
-            leg: Leg::Between(x, y),
+        return Got {
+            v: Leg::Between(x, y),
             c: end,
         };
     }
     if i == 3 {
         let end = read_ranging(s, index.c);
-        return LegAt {
-            leg: Leg::Unread,
+        return Got {
+            v: Leg::Unread,
             c: end,
         };
     }
     if i == 4 {
         let a = ia5(s, index.c, ROUTE_SIZE);
-        let x = a.text;
+        let x = a.v;
         let end = a.c;
-        return LegAt {
-            leg: Leg::Designator(x),
+        return Got {
+            v: Leg::Designator(x),
             c: end,
         };
     }
     let end = stop(index.c, 5, 1);
-    LegAt {
-        leg: Leg::Unread,
+    Got {
+        v: Leg::Unread,
         c: end,
     }
 }

@@ -19,7 +19,6 @@ use Rattle.cursor.specs.declared.place.Cursor.{Cursor}
 use Rattle.cursor.specs.declared.place.Got.{Got}
 use Rattle.length_determinants.specs.declared.Head.{Head}
 use Rattle.length_determinants.specs.declared.Head.TheVariants.{Last, Part}
-use Rattle.length_determinants.specs.declared.Measured.{Measured}
 use Rattle.cursor.specs.Place.{number, put, stopped, marked, Inside, Pulled, stuck, short, got, Pulls, Led, stayed, went, failed, Reads, Takes}
 use Rattle.length_determinants.specs.Lengths.{Passes, Known, Ends, GoesOn, Heads, Sums, Measures, Worth, small_then, Smalls}
 use Rattle.cursor.proofs.Laws.{led_inside, led_stays, reads_same, reads_then, reads_ok, reads_stop, Behind, pull-then, marked-nil, stopped_stops}
@@ -226,7 +225,7 @@ module _ {s : List ℕ} {c d : Cursor} {n : ℕ} {h : Head} where
   told_part q x = rw q at x
 
 module _ {s : List ℕ} {c d : Cursor} {n sum : ℕ} (i : Inside s c) where
-  pub sums_last : length s ≤ 65536 → sum ≤ c.at * 8192 → Ends s c n d → Sums s c sum (record { count = sum + n; c = d })
+  pub sums_last : length s ≤ 65536 → sum ≤ c.at * 8192 → Ends s c n d → Sums s c sum (record { v = sum + n; c = d })
   sums_last l b h = record { then = λ k g. go k g; few = omega (arith, i.0, i.1, h.few) }
     where
       go : (k : ℕ → ℕ → ℕ → Ans) (g : ℕ) {e : Cursor} {R : List Rec} → c.end < c.at + g * 8 → Reads (λ u p. k (sum + n) u p) s d e R → Reads (λ u p. lengths g (bit_of s) u p (λ m q. k (sum + m) u q)) s c e R
@@ -234,37 +233,37 @@ module _ {s : List ℕ} {c d : Cursor} {n sum : ℕ} (i : Inside s c) where
       go k (suc g) f r = h.then (λ m u p. k (sum + m) u p) g r
 
   -- the fragment takes one of the lengths that the bound allows
-  pub sums_part : {r : Measured} → GoesOn s c n d → Sums s d (sum + n) r → Sums s c sum r
+  pub sums_part : {r : Got ℕ} → GoesOn s c n d → Sums s d (sum + n) r → Sums s c sum r
   sums_part {r} h x = record { then = λ k g. go k g; few = x.few }
     where
-      go : (k : ℕ → ℕ → ℕ → Ans) (g : ℕ) {e : Cursor} {R : List Rec} → c.end < c.at + g * 8 → Reads (λ u p. k r.count u p) s r.c e R → Reads (λ u p. lengths g (bit_of s) u p (λ m q. k (sum + m) u q)) s c e R
+      go : (k : ℕ → ℕ → ℕ → Ans) (g : ℕ) {e : Cursor} {R : List Rec} → c.end < c.at + g * 8 → Reads (λ u p. k r.v u p) s r.c e R → Reads (λ u p. lengths g (bit_of s) u p (λ m q. k (sum + m) u q)) s c e R
       go k zero f y = absurd (omega (arith, i.0))
       go k (suc g) f y = h.then (λ m u p. k (sum + m) u p) g (simp add_assoc at (x.then k g (omega (arith, h.window, h.ahead)) y))
 
 module _ {s : List ℕ} {c : Cursor} where
-  pub measures_in : {r : Measured} → length s ≤ 65536 → c.end ≤ length s * 8 → Sums s c 0 r → Measures s c r
+  pub measures_in : {r : Got ℕ} → length s ≤ 65536 → c.end ≤ length s * 8 → Sums s c 0 r → Measures s c r
   unfolding length_then
   measures_in l e x = record { then = λ k y. simp zero-add at (x.then k 65537 (omega arith) y); few = x.few }
 
   -- outside the window, or the frame, nothing is owed
-  measures_where : {r : Measured} → r.count ≤ 2 ^ 33 → (Inside s c → Measures s c r) → Measures s c r
+  measures_where : {r : Got ℕ} → r.v ≤ 2 ^ 33 → (Inside s c → Measures s c r) → Measures s c r
   measures_where f h = record { then = λ k y. record { led = λ i. ((h i).then k y).led i }; few = f }
 
-  measures_out : (Inside s c → ⊥) → Measures s c (record { count = 0; c = c })
+  measures_out : (Inside s c → ⊥) → Measures s c (record { v = 0; c = c })
   measures_out h = measures_where (omega arith) (λ i. absurd (h i))
 
-  pub measures_off : c.end < c.at → Measures s c (record { count = 0; c = c })
+  pub measures_off : c.end < c.at → Measures s c (record { v = 0; c = c })
   measures_off l = measures_out (λ i. omega (arith, i.0))
 
-  pub measures_lost : length s * 8 < c.end → Measures s c (record { count = 0; c = c })
+  pub measures_lost : length s * 8 < c.end → Measures s c (record { v = 0; c = c })
   measures_lost l = measures_out (λ i. omega (arith, i.1))
 
   -- eight bits below 128 are a bit that is clear and seven bits
-  pub measures_short : {g : Got ℕ} → Pulls s c 8 g → g.c.why ≡ 0 → g.v < 128 → Measures s c (record { count = g.v; c = g.c })
+  pub measures_short : {g : Got ℕ} → Pulls s c 8 g → g.c.why ≡ 0 → g.v < 128 → Measures s c (record { v = g.v; c = g.c })
   unfolding length_then
   measures_short {g} x z l = measures_where (omega arith) (λ i. go i (x.gave i))
     where
-      go : Inside s c → Pulled s c 8 g → Measures s c (record { count = g.v; c = g.c })
+      go : Inside s c → Pulled s c 8 g → Measures s c (record { v = g.v; c = g.c })
       go i (stuck h q) = absurd (h (rw q at z))
       go i (short y o q) = absurd (let w = rw q at z in omega arith)
       go i (got y o v q) =
@@ -276,7 +275,7 @@ module _ {s : List ℕ} {c : Cursor} where
           record { then = λ k r. h.then k 65536 r; few = omega arith }
 
   -- the cursor behind a length stands in the same window
-  pub measures_inside : {r : Measured} → Measures s c r → Inside s c → Inside s r.c × (r.c.end ≡ c.end)
+  pub measures_inside : {r : Got ℕ} → Measures s c r → Inside s c → Inside s r.c × (r.c.end ≡ c.end)
   measures_inside {r} x i = reads_inside _ (x.then (λ n u p. ok p [] 0) (reads_ok [] 0 (marked-nil r.c))) i
 
 ---------------------------------------------------------------- the normally small number
@@ -352,7 +351,7 @@ module _ {s : List ℕ} {c : Cursor} {form : Got ℕ} (a : Pulls s c 1 form) whe
   pub smalls_six : {g : Got ℕ} → form.v ≡ 0 → Pulls s form.c 6 g → Smalls s c g
   smalls_six {g} z x = record { then = λ k r. begun k (reads_clear form.v (Behind s 6 k) (octets_form k) z (pull-then 6 g k x r)) }
 
-  pub smalls_octets : {l : Measured} {g : Got ℕ} → (form.v ≡ 0 → ⊥) → Measures s form.c l → Worth s l.c (l.count * 8) g → Smalls s c g
+  pub smalls_octets : {l : Got ℕ} {g : Got ℕ} → (form.v ≡ 0 → ⊥) → Measures s form.c l → Worth s l.c (l.v * 8) g → Smalls s c g
   smalls_octets h x w = record { then = λ k r. begun k (reads_set form.v (Behind s 6 k) (octets_form k) h (x.then (λ n u p. pull (bit_of s) u p (n * 8) (λ v. k (word v) u (p + n * 8))) (w.then k r))) }
 
 ---------------------------------------------------------------- formats
@@ -364,12 +363,12 @@ module _ {s : List ℕ} {c d : Cursor} where
   takes_small m t {g} q x = record { took = λ y. reads_mark (mark m) _ q (reads_same (λ u p. small_then (bit_of s) u p (λ v q. ok q (rec t y.0 v 0 d.at ∷ []) 0)) _ refl (x.then (λ v u p. ok p (rec t y.0 v 0 d.at ∷ []) 0) (reads_ok _ 0 (marked-nil g.c)))) }
 
   -- the caller marks, measures and passes over
-  pub takes_skipped : (m : ℕ) {l : Measured} {r : Cursor} → d ≡ marked c (mark m) → Measures s d l → Passes l.c (l.count * 8) r → Takes (skipped m) s c r (λ n. [])
+  pub takes_skipped : (m : ℕ) {l : Got ℕ} {r : Cursor} → d ≡ marked c (mark m) → Measures s d l → Passes l.c (l.v * 8) r → Takes (skipped m) s c r (λ n. [])
   unfolding read
   takes_skipped m q x y = record { took = λ _. reads_mark (mark m) _ q (x.then (λ n u p. pull (bit_of s) u p (n * 8) (λ _. ok (p + n * 8) [] 0)) (passes_ok y)) }
 
 -- the caller measures and passes over, and tells the span
-pub takes_any_span : {s : List ℕ} {c : Cursor} (t w : ℕ) {l : Measured} {r : Cursor} → Measures s c l → Passes l.c (l.count * w) r → Takes (any_span t w) s c r (λ n. spanned t n c.at l.c.at (l.count * w))
+pub takes_any_span : {s : List ℕ} {c : Cursor} (t w : ℕ) {l : Got ℕ} {r : Cursor} → Measures s c l → Passes l.c (l.v * w) r → Takes (any_span t w) s c r (λ n. spanned t n c.at l.c.at (l.v * w))
 unfolding read
 takes_any_span {s} {c} t w {l} {r} x y =
     record { took = λ z. reads_same (λ u p. length_then (bit_of s) u p (λ n q. pull (bit_of s) u q (n * w) (λ _. ok (q + n * w) (spanned t z.0 c.at q (n * w)) 0))) _ refl (x.then (λ n u p. pull (bit_of s) u p (n * w) (λ _. ok (p + n * w) (spanned t z.0 c.at p (n * w)) 0)) (reads_same _ _ refl (passes_ok y))) }

@@ -6,7 +6,6 @@ use Rattle.cursor.specs.declared.place.Cursor.{Cursor}
 use Rattle.cursor.specs.declared.place.Got.{Got}
 use Rattle.length_determinants.specs.declared.Head.{Head}
 use Rattle.length_determinants.specs.declared.Head.TheVariants.{Last, Part}
-use Rattle.length_determinants.specs.declared.Measured.{Measured}
 use Rattle.cursor.specs.Place.{Inside, Pulls, Reads}
 
 -- n bits were passed over: whatever the frame is, they are as good as pulled
@@ -42,15 +41,15 @@ Heads s c (Last n d) = Ends s c n d
 Heads s c (Part n d) = GoesOn s c n d
 
 -- the lengths from c on, with the sum of those before, for every bound on their number that is enough
-pub record Sums (s : List ℕ) (c : Cursor) (sum : ℕ) (r : Measured) : Type 0 where
-  pub then : (k : ℕ → ℕ → ℕ → Ans) (g : ℕ) {d : Cursor} {R : List Rec} → c.end < c.at + g * 8 → Reads (λ u p. k r.count u p) s r.c d R
+pub record Sums (s : List ℕ) (c : Cursor) (sum : ℕ) (r : Got ℕ) : Type 0 where
+  pub then : (k : ℕ → ℕ → ℕ → Ans) (g : ℕ) {d : Cursor} {R : List Rec} → c.end < c.at + g * 8 → Reads (λ u p. k r.v u p) s r.c d R
       → Reads (λ u p. lengths g (bit_of s) u p (λ n q. k (sum + n) u q)) s c d R
-  pub few : r.count ≤ 2 ^ 33
+  pub few : r.v ≤ 2 ^ 33
 
 -- the length determinant, and what follows it
-pub record Measures (s : List ℕ) (c : Cursor) (r : Measured) : Type 0 where
-  pub then : (k : ℕ → ℕ → ℕ → Ans) {d : Cursor} {R : List Rec} → Reads (λ u p. k r.count u p) s r.c d R → Reads (λ u p. length_then (bit_of s) u p (λ n q. k n u q)) s c d R
-  pub few : r.count ≤ 2 ^ 33
+pub record Measures (s : List ℕ) (c : Cursor) (r : Got ℕ) : Type 0 where
+  pub then : (k : ℕ → ℕ → ℕ → Ans) {d : Cursor} {R : List Rec} → Reads (λ u p. k r.v u p) s r.c d R → Reads (λ u p. length_then (bit_of s) u p (λ n q. k n u q)) s c d R
+  pub few : r.v ≤ 2 ^ 33
 
 ---------------------------------------------------------------- the normally small number
 

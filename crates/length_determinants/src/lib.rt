@@ -9,13 +9,6 @@ use cursor::place::{Cursor, Got, bits, mark, ran_out, stop};
 use per::room::holds;
 use per::units::{Bits, Octets};
 
-// A length in units that the caller knows, and the cursor behind it.
-#[derive(Clone, Copy)]
-pub struct Measured {
-    pub count: usize,
-    pub c: Cursor,
-}
-
 // One length: the last, or a fragment's, behind which another length stands.
 #[derive(Clone, Copy)]
 enum Head {
@@ -72,13 +65,13 @@ fn one(s: &[u8], c: Cursor) -> Head
 }
 
 // The lengths from here on, added to the sum of those before. Each fragment takes eight bits, so the bits left fall, and the sum stays small.
-fn count(s: &[u8], c: Cursor, sum: usize) -> Measured
+fn count(s: &[u8], c: Cursor, sum: usize) -> Got<usize>
     requires { (length s.now ≤ 65536) × Inside s.now c × (sum ≤ c.at * 8192) }
     ensures { Sums s.now c sum result }
 {
     match one(s, c) {
-        Head::Last(n, d) => Measured {
-            count: sum + n,
+        Head::Last(n, d) => Got {
+            v: sum + n,
             c: d,
         },
         Head::Part(n, d) => count(s, d, sum + n),
@@ -86,7 +79,7 @@ fn count(s: &[u8], c: Cursor, sum: usize) -> Measured
 }
 
 // The length determinant: the sum of all lengths in a row. Eight bits that are below 128 are one length in the short form, and all.
-pub fn length(s: &[u8], c: Cursor) -> Measured
+pub fn length(s: &[u8], c: Cursor) -> Got<usize>
     requires { length s.now ≤ 65536 }
     ensures { Measures s.now c result }
 {
@@ -94,8 +87,8 @@ pub fn length(s: &[u8], c: Cursor) -> Measured
     let d = short.c;
     if d.why == 0 {
         if short.v < 128 {
-            return Measured {
-                count: short.v as usize,
+            return Got {
+                v: short.v as usize,
                 c: d,
             };
         }
@@ -104,7 +97,7 @@ pub fn length(s: &[u8], c: Cursor) -> Measured
 }
 
 // The length determinant, in whatever form its lengths are.
-fn any_form(s: &[u8], c: Cursor) -> Measured
+fn any_form(s: &[u8], c: Cursor) -> Got<usize>
     requires { length s.now ≤ 65536 }
     ensures { Measures s.now c result }
 {
@@ -115,7 +108,7 @@ fn any_form(s: &[u8], c: Cursor) -> Measured
             return count(s, c, 0);
         }
     }
-    Measured { count: 0, c: c }
+    Got { v: 0, c: c }
 }
 
 // So many bits are passed over without being looked at. Where the window is too short for them it says so and does not move.
@@ -194,5 +187,5 @@ pub fn small(s: &[u8], c: Cursor) -> Got<u64>
     }
     let l = length(s, d);
     let e = l.c;
-    last_eight(s, e, Octets(l.count))
+    last_eight(s, e, Octets(l.v))
 }

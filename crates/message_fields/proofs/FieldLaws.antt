@@ -16,7 +16,7 @@ use Rattle.records.specs.Told.{Told}
 use Rattle.runs.specs.declared.At.{At}
 use Rattle.runs.specs.Runs.{Runs}
 use Rattle.runs.proofs.RunLaws.{runs_told, runs_untold, runs_stayed, runs_silent, runs_within, runs_clear, runs_set}
-use Rattle.date_times.specs.declared.DateTimeAt.{DateTimeAt}
+use Rattle.date_times.specs.declared.DateTime.{DateTime}
 use Rattle.date_times.specs.Times.{DateTimes, date_time_recs}
 use Rattle.message_fields.specs.Fields.{number_field, maybe_number_field, date_time_field, acknowledgment_field}
 
@@ -38,8 +38,8 @@ module _ (has row t : ℕ) {s : List ℕ} {c : Cursor} {n : ℕ} {w : List ℕ} 
   unfolding maybe_number_field
   maybe_number-some z x = runs_set (λ e p. ok p [] 0) (number_field row t s) has z x
 
-module _ {s : List ℕ} {c : Cursor} {g : DateTimeAt} (h : DateTimes s c g) where
-  pub date_time_told : {n m : ℕ} {w w' : List ℕ} → g.c.why ≡ 0 → Told 6 w w' n m (date_time_recs g.time 0) → Runs 6 (date_time_field s) s c n w w' (record { n = m; c = g.c })
+module _ {s : List ℕ} {c : Cursor} {g : Got DateTime} (h : DateTimes s c g) where
+  pub date_time_told : {n m : ℕ} {w w' : List ℕ} → g.c.why ≡ 0 → Told 6 w w' n m (date_time_recs g.v 0) → Runs 6 (date_time_field s) s c n w w' (record { n = m; c = g.c })
   unfolding date_time_field
   date_time_told z y = runs_told (date_time_field s) (h.takes.took (0, 0)) z y
 

@@ -57,7 +57,7 @@ pub fn date_time_field(s: &[u8], words: &mut [u64], x: At) -> At
     if d.why != 0 {
         return At { n: n, c: d };
     }
-    let m = tell_date_time(words, n, g.time);
+    let m = tell_date_time(words, n, g.v);
     At { n: m, c: d }
 }
 

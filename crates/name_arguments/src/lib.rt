@@ -3,87 +3,87 @@
 
 ghost use Rattle.argument_values.specs.Arguments.{Arguments};
 
-use argument_values::{Argument, ArgumentAt};
-use cursor::place::Cursor;
+use argument_values::Argument;
+use cursor::place::{Cursor, Got};
 use enumerations::{
     read_clearance_type, read_error_information, read_facility_function, read_speed_type,
     read_speed_type_triple, read_traffic_type,
 };
 
-pub fn speed_type(s: &[u8], c: Cursor) -> ArgumentAt
+pub fn speed_type(s: &[u8], c: Cursor) -> Got<Argument>
     ensures { Arguments 3 s.now c result }
 {
     let x = read_speed_type(s, c);
-    let value = x.name;
+    let value = x.v;
     let end = x.c;
     let argument = Argument::SpeedType(value);
-    ArgumentAt {
-        argument: argument,
+    Got {
+        v: argument,
         c: end,
     }
 }
 
-pub fn speed_types(s: &[u8], c: Cursor) -> ArgumentAt
+pub fn speed_types(s: &[u8], c: Cursor) -> Got<Argument>
     ensures { Arguments 4 s.now c result }
 {
     let x = read_speed_type_triple(s, c);
-    let value = x.triple;
+    let value = x.v;
     let end = x.c;
     let argument = Argument::SpeedTypes(value);
-    ArgumentAt {
-        argument: argument,
+    Got {
+        v: argument,
         c: end,
     }
 }
 
-pub fn traffic_type(s: &[u8], c: Cursor) -> ArgumentAt
+pub fn traffic_type(s: &[u8], c: Cursor) -> Got<Argument>
     ensures { Arguments 9 s.now c result }
 {
     let x = read_traffic_type(s, c);
-    let value = x.name;
+    let value = x.v;
     let end = x.c;
     let argument = Argument::TrafficType(value);
-    ArgumentAt {
-        argument: argument,
+    Got {
+        v: argument,
         c: end,
     }
 }
 
-pub fn clearance_type(s: &[u8], c: Cursor) -> ArgumentAt
+pub fn clearance_type(s: &[u8], c: Cursor) -> Got<Argument>
     ensures { Arguments 10 s.now c result }
 {
     let x = read_clearance_type(s, c);
-    let value = x.name;
+    let value = x.v;
     let end = x.c;
     let argument = Argument::ClearanceType(value);
-    ArgumentAt {
-        argument: argument,
+    Got {
+        v: argument,
         c: end,
     }
 }
 
-pub fn error_information(s: &[u8], c: Cursor) -> ArgumentAt
+pub fn error_information(s: &[u8], c: Cursor) -> Got<Argument>
     ensures { Arguments 11 s.now c result }
 {
     let x = read_error_information(s, c);
-    let value = x.name;
+    let value = x.v;
     let end = x.c;
     let argument = Argument::ErrorInformation(value);
-    ArgumentAt {
-        argument: argument,
+    Got {
+        v: argument,
         c: end,
     }
 }
 
-pub fn facility_function(s: &[u8], c: Cursor) -> ArgumentAt
+pub fn facility_function(s: &[u8], c: Cursor) -> Got<Argument>
     ensures { Arguments 12 s.now c result }
 {
     let x = read_facility_function(s, c);
-    let value = x.name;
+    let value = x.v;
     let end = x.c;
     let argument = Argument::FacilityFunction(value);
-    ArgumentAt {
-        argument: argument,
+    Got {
+        v: argument,
         c: end,
     }
 }

@@ -11,7 +11,7 @@ use Rattle.atn.specs.Format.{Fmt, seq, choice, end, ◌⨾◌, ◌⨾?◌, none_
 use Rattle.atn.specs.Reading.{Rec, rec, flags, read_choice}
 use Rattle.cursor.specs.declared.place.Cursor.{Cursor}
 use Rattle.cursor.specs.declared.place.Got.{Got}
-use Rattle.character_strings.specs.declared.TextAt.{TextAt}
+use Rattle.character_strings.specs.declared.Text.{Text}
 use Rattle.cursor.specs.Place.{Pulls, Opens, Takes}
 use Rattle.cursor.specs.Formats.{Maybe}
 use Rattle.character_strings.specs.Texts.{Texts}
@@ -22,7 +22,7 @@ use Rattle.named_places.specs.Names.{Held}
 
 ---------------------------------------------------------------- texts
 
-pub held-text : {k : ℕ} {s : List ℕ} {c : Cursor} {r : TextAt} → Texts k s c r → Held s r.text
+pub held-text : {k : ℕ} {s : List ℕ} {c : Cursor} {r : Got Text} → Texts k s c r → Held s r.v
 held-text h = record { few = h.few; there = h.held }
 
 pub held_none : {s : List ℕ} → Held s (record { from = 0; at = 0; len = 0 })

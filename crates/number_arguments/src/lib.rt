@@ -3,86 +3,86 @@
 
 ghost use Rattle.argument_values.specs.Arguments.{Arguments};
 
-use argument_values::{Argument, ArgumentAt};
+use argument_values::Argument;
 use codes_runways::{read_code, read_runway};
-use cursor::place::Cursor;
+use cursor::place::{Cursor, Got};
 use frequencies::read_frequency;
 use quantities::{read_degrees, read_level_type, read_speed};
 
-pub fn speed(s: &[u8], c: Cursor) -> ArgumentAt
+pub fn speed(s: &[u8], c: Cursor) -> Got<Argument>
     ensures { Arguments 2 s.now c result }
 {
     let x = read_speed(s, c);
-    let value = x.quantity;
+    let value = x.v;
     let end = x.c;
     let argument = Argument::Speed(value);
-    ArgumentAt {
-        argument: argument,
+    Got {
+        v: argument,
         c: end,
     }
 }
 
-pub fn level(s: &[u8], c: Cursor) -> ArgumentAt
+pub fn level(s: &[u8], c: Cursor) -> Got<Argument>
     ensures { Arguments 5 s.now c result }
 {
     let x = read_level_type(s, c);
-    let value = x.quantity;
+    let value = x.v;
     let end = x.c;
     let argument = Argument::Level(value);
-    ArgumentAt {
-        argument: argument,
+    Got {
+        v: argument,
         c: end,
     }
 }
 
-pub fn degrees(s: &[u8], c: Cursor) -> ArgumentAt
+pub fn degrees(s: &[u8], c: Cursor) -> Got<Argument>
     ensures { Arguments 6 s.now c result }
 {
     let x = read_degrees(s, c);
-    let value = x.quantity;
+    let value = x.v;
     let end = x.c;
     let argument = Argument::Degrees(value);
-    ArgumentAt {
-        argument: argument,
+    Got {
+        v: argument,
         c: end,
     }
 }
 
-pub fn frequency(s: &[u8], c: Cursor) -> ArgumentAt
+pub fn frequency(s: &[u8], c: Cursor) -> Got<Argument>
     ensures { Arguments 7 s.now c result }
 {
     let x = read_frequency(s, c);
-    let value = x.frequency;
+    let value = x.v;
     let end = x.c;
     let argument = Argument::Frequency(value);
-    ArgumentAt {
-        argument: argument,
+    Got {
+        v: argument,
         c: end,
     }
 }
 
-pub fn code(s: &[u8], c: Cursor) -> ArgumentAt
+pub fn code(s: &[u8], c: Cursor) -> Got<Argument>
     ensures { Arguments 8 s.now c result }
 {
     let x = read_code(s, c);
-    let value = x.code;
+    let value = x.v;
     let end = x.c;
     let argument = Argument::Code(value);
-    ArgumentAt {
-        argument: argument,
+    Got {
+        v: argument,
         c: end,
     }
 }
 
-pub fn runway(s: &[u8], c: Cursor) -> ArgumentAt
+pub fn runway(s: &[u8], c: Cursor) -> Got<Argument>
     ensures { Arguments 14 s.now c result }
 {
     let x = read_runway(s, c);
-    let value = x.runway;
+    let value = x.v;
     let end = x.c;
     let argument = Argument::Runway(value);
-    ArgumentAt {
-        argument: argument,
+    Got {
+        v: argument,
         c: end,
     }
 }

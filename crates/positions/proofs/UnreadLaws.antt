@@ -70,6 +70,14 @@ marked_again m c h = go c.why refl
 
 ---------------------------------------------------------------- the parts' records
 
+pub note_absent : (t has at n : ℕ) → has ≡ 0 → note_recs t has at n ≡ []
+note_absent t zero at n h = refl
+note_absent t (suc h) at n z = absurd (omega arith)
+
+pub note_there : (t has at n : ℕ) → (has ≡ 0 → ⊥) → note_recs t has at n ≡ rec t n 1 0 at ∷ []
+note_there t zero at n h = absurd (h refl)
+note_there t (suc h) at n z = refl
+
 abbrev note : ℕ → ℕ → ℕ → ℕ → Ans
 note t n v p = fork v (ok p [] 0) (ok p (rec t n 1 0 p ∷ []) (mark 4))
 

@@ -1,5 +1,5 @@
 -- Positions and the departure clearance: their records, what telling them needs, and what their readers read.
-use Rattle.std.specs.Prelude.{◌≡◌, List, [], ◌∷◌, ◌++◌, ℕ, ◌+◌, ◌≤◌, ◌<◌}
+use Rattle.std.specs.Prelude.{◌≡◌, List, [], ◌∷◌, ◌++◌, ℕ, zero, suc, ◌+◌, ◌≤◌, ◌<◌}
 use Rattle.x691.specs.Bits.{bit_of}
 use Rattle.atn.specs.Format.{out}
 use Rattle.atn.specs.Reading.{Rec, rec, or, unread_mark}
@@ -11,10 +11,8 @@ use Rattle.cursor.specs.Place.{number, put, Inside, Takes}
 use Rattle.character_strings.specs.Texts.{text_recs}
 use Rattle.positions.specs.declared.Position.{Position}
 use Rattle.positions.specs.declared.Position.TheVariants.{Fix, Navaid, Airport, Coordinates, Unread}
-use Rattle.positions.specs.declared.PositionAt.{PositionAt}
 use Rattle.positions.specs.declared.Departure.{Departure}
-use Rattle.positions.specs.declared.DepartureAt.{DepartureAt}
-use Rattle.angles.specs.Angles.{unless_absent, pair_recs}
+use Rattle.angles.specs.Angles.{pair_recs}
 use Rattle.named_places.specs.Names.{Held, named_recs}
 
 ---------------------------------------------------------------- records
@@ -28,7 +26,8 @@ position_recs s Unread n = []
 
 -- a part that is there, and not read: where the reading stood
 abbrev pub note_recs : ℕ → ℕ → ℕ → ℕ → List Rec
-note_recs t has at n = unless_absent has (rec t n 1 0 at ∷ [])
+note_recs t zero at n = []
+note_recs t (suc h) at n = rec t n 1 0 at ∷ []
 
 unfoldable pub departure_recs : List ℕ → Departure → ℕ → List Rec
 departure_recs s v n =
@@ -45,10 +44,10 @@ HeldPosition s Unread = Unit {0}
 
 ---------------------------------------------------------------- readers
 
-pub record Positions (s : List ℕ) (c : Cursor) (r : PositionAt) : Type 0 where
-  pub reads : Takes message.position s c r.c (position_recs s r.position)
+pub record Positions (s : List ℕ) (c : Cursor) (r : Got Position) : Type 0 where
+  pub reads : Takes message.position s c r.c (position_recs s r.v)
   -- whatever was read
-  pub held : HeldPosition s r.position
+  pub held : HeldPosition s r.v
 
 -- What the presence bit of a part that is not read gave: nothing behind a failure; ran out without moving; or the bit, with its mark.
 pub data Flagged (s : List ℕ) (c : Cursor) (g : Got ℕ) : Type 0 where
@@ -59,8 +58,8 @@ pub data Flagged (s : List ℕ) (c : Cursor) (g : Got ℕ) : Type 0 where
 pub record Flags (s : List ℕ) (c : Cursor) (g : Got ℕ) : Type 0 where
   pub gave : Inside s c → Flagged s c g
 
-pub record Departures (s : List ℕ) (c : Cursor) (r : DepartureAt) : Type 0 where
-  pub reads : Takes message.departure_clearance s c r.c (departure_recs s r.departure)
+pub record Departures (s : List ℕ) (c : Cursor) (r : Got Departure) : Type 0 where
+  pub reads : Takes message.departure_clearance s c r.c (departure_recs s r.v)
   -- whatever was read
-  pub held_flight : Held s r.departure.flight
-  pub held_position : HeldPosition s r.departure.position
+  pub held_flight : Held s r.v.flight
+  pub held_position : HeldPosition s r.v.position

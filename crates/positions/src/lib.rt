@@ -19,13 +19,7 @@ pub enum Position {
     Unread,
 }
 
-#[derive(Clone, Copy)]
-pub struct PositionAt {
-    pub position: Position,
-    pub c: Cursor,
-}
-
-// information, instructions: 0 where the part is absent; notes_at: where the reading stood, behind the position
+// information, instructions: their presence bits, as the frame has them; notes_at: where the reading stood, behind the position
 #[derive(Clone, Copy)]
 pub struct Departure {
     pub flight: Text,
@@ -35,64 +29,44 @@ pub struct Departure {
     pub notes_at: usize,
 }
 
-#[derive(Clone, Copy)]
-pub struct DepartureAt {
-    pub departure: Departure,
-    pub c: Cursor,
-}
-
-pub fn read_position(s: &[u8], c: Cursor) -> PositionAt
+pub fn read_position(s: &[u8], c: Cursor) -> Got<Position>
     ensures { Positions s.now c result }
 {
-    let at = c.at;
     let index = bits(s, c, 3);
-    let kind = index.v;
-    if kind == 0 {
-        let fix = read_named(s, index.c, FIX_SIZE);
-        let named = fix.named;
-        let end = fix.c;
-        let position = Position::Fix(at, named);
-        return PositionAt {
-            position: position,
-            c: end,
-        };
-    }
-    if kind == 1 {
-        let navaid = read_named(s, index.c, NAVAID_SIZE);
-        let named = navaid.named;
-        let end = navaid.c;
-        let position = Position::Navaid(at, named);
-        return PositionAt {
-            position: position,
-            c: end,
-        };
-    }
-    if kind == 2 {
-        let airport = ia5(s, index.c, AIRPORT_SIZE);
-        let text = airport.text;
-        let end = airport.c;
-        let position = Position::Airport(at, text);
-        return PositionAt {
-            position: position,
-            c: end,
-        };
-    }
-    if kind == 3 {
-        let coordinates = read_latlon(s, index.c);
-        let pair = coordinates.pair;
-        let end = coordinates.c;
-        let position = Position::Coordinates(at, pair);
-        return PositionAt {
-            position: position,
-            c: end,
-        };
-    }
-    // 4 is a place with its bearing and distance, which document 01 does not supply
-    let end = stop(index.c, 5, 1);
-    let position = Position::Unread;
-    PositionAt {
-        position: position,
-        c: end,
+    match index.v {
+        0 => {
+            let fix = read_named(s, index.c, FIX_SIZE);
+            Got {
+                v: Position::Fix(c.at, fix.v),
+                c: fix.c,
+            }
+        }
+        1 => {
+            let navaid = read_named(s, index.c, NAVAID_SIZE);
+            Got {
+                v: Position::Navaid(c.at, navaid.v),
+                c: navaid.c,
+            }
+        }
+        2 => {
+            let airport = ia5(s, index.c, AIRPORT_SIZE);
+            Got {
+                v: Position::Airport(c.at, airport.v),
+                c: airport.c,
+            }
+        }
+        3 => {
+            let coordinates = read_latlon(s, index.c);
+            Got {
+                v: Position::Coordinates(c.at, coordinates.v),
+                c: coordinates.c,
+            }
+        }
+        // 4 is a place with its bearing and distance, which document 01 does not supply
+        _ => Got {
+            v: Position::Unread,
+            c: stop(index.c, 5, 1),
+        },
     }
 }
 
@@ -104,29 +78,27 @@ fn read_flag(s: &[u8], c: Cursor) -> Got<u64>
     if flag.v == 0 {
         return flag;
     }
-    let end = mark(flag.c, 8);
-    Got { v: 1, c: end }
+    Got {
+        v: 1,
+        c: mark(flag.c, 8),
+    }
 }
 
-pub fn read_departure_clearance(s: &[u8], c: Cursor) -> DepartureAt
+pub fn read_departure_clearance(s: &[u8], c: Cursor) -> Got<Departure>
     ensures { Departures s.now c result }
 {
     let information = read_flag(s, c);
     let instructions = read_flag(s, information.c);
     let flight = ia5(s, instructions.c, FLIGHT_SIZE);
     let place = read_position(s, flight.c);
-    let text = flight.text;
-    let position = place.position;
-    let end = place.c;
-    let departure = Departure {
-        flight: text,
-        position: position,
-        information: information.v,
-        instructions: instructions.v,
-        notes_at: place.c.at,
-    };
-    DepartureAt {
-        departure: departure,
-        c: end,
+    Got {
+        v: Departure {
+            flight: flight.v,
+            position: place.v,
+            information: information.v,
+            instructions: instructions.v,
+            notes_at: place.c.at,
+        },
+        c: place.c,
     }
 }

@@ -13,7 +13,6 @@ use Rattle.atn.specs.Tags as tag
 use Rattle.atn.proofs.Tame.{tame}
 use Rattle.cursor.specs.declared.place.Cursor.{Cursor}
 use Rattle.cursor.specs.declared.place.Got.{Got}
-use Rattle.length_determinants.specs.declared.Measured.{Measured}
 use Rattle.length_determinants.specs.Lengths.{Measures, Passes}
 use Rattle.cursor.specs.Place.{marked, stopped, Pulls, Opens, Reads}
 use Rattle.cursor.proofs.Laws.{reads_ok, reads_here, marked-nil}
@@ -39,7 +38,7 @@ module _ (has : ℕ) {s : List ℕ} {c : Cursor} where
   unfolding algorithm
   algorithm-none z = reads_clear has (λ u p. ok p [] 0) (skips s) z (reads_ok [] 0 (marked-nil c))
 
-  pub algorithm_skipped : {k : ℕ} {d r : Cursor} {l : Measured} → (has ≡ 0 → ⊥) → d ≡ marked c 8 → Measures s d l → k ≡ l.count * 8 → Passes l.c k r → Reads (algorithm has s) s c r []
+  pub algorithm_skipped : {k : ℕ} {d r : Cursor} {l : Got ℕ} → (has ≡ 0 → ⊥) → d ≡ marked c 8 → Measures s d l → k ≡ l.v * 8 → Passes l.c k r → Reads (algorithm has s) s c r []
   unfolding algorithm mark
   algorithm_skipped h q measures e passes = reads_set has (λ u p. ok p [] 0) (skips s) h ((takes_skipped 4 q measures (rw e at passes)).took (0, 0))
 

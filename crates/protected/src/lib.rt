@@ -25,7 +25,7 @@ fn skip_algorithm(s: &[u8], c: Cursor, has: u64) -> Cursor
     }
     let m = mark(c, 8);
     let l = length(s, m);
-    let size = Octets(l.count).bits();
+    let size = Octets(l.v).bits();
     pass(l.c, size)
 }
 

@@ -41,7 +41,7 @@ pub fn size(label: &[u8], frame: &[u8], c: Cursor) -> Cursor {
     }
     let l = length(frame, c);
     let d = l.c;
-    told(label, l.count as u64, d.why);
+    told(label, l.v as u64, d.why);
     d
 }
 
@@ -53,7 +53,7 @@ pub fn string(label: &[u8], frame: &[u8], c: Cursor) -> Cursor {
     let l = length(frame, c);
     let d = l.c;
     io::write_all(1, label);
-    characters(frame, d, l.count)
+    characters(frame, d, l.v)
 }
 
 fn characters(frame: &[u8], c: Cursor, n: usize) -> Cursor {

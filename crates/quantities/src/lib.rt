@@ -5,7 +5,7 @@ ghost use Rattle.std.specs.Prelude.{◌≡◌, ◌+◌, ◌≤◌};
 ghost use Rattle.quantities.specs.Readers.{Quantities, index_width};
 ghost use Rattle.quantities.specs.Readers.{Speeds, Levels, Degrees};
 
-use cursor::place::{Cursor, bits, stop};
+use cursor::place::{Cursor, Got, bits, stop};
 use field_ranges::table::{DEGREES_0, LEVEL_0, SPEED_0, range_at};
 use ranged_numbers::ranged;
 
@@ -17,14 +17,8 @@ pub struct Quantity {
     pub number_at: usize,
 }
 
-#[derive(Clone, Copy)]
-pub struct QuantityAt {
-    pub quantity: Quantity,
-    pub c: Cursor,
-}
-
 // The ranges of the kinds stand in a row of the table, from `first` on. An index behind the last kind is not listed.
-fn read_quantity(s: &[u8], c: Cursor, width: usize, first: usize, kinds: u64) -> QuantityAt
+fn read_quantity(s: &[u8], c: Cursor, width: usize, first: usize, kinds: u64) -> Got<Quantity>
     requires { (width ≡ index_width first kinds) × (width ≤ 8) × (first + kinds ≤ 58) }
     ensures { Quantities first kinds s.now c result }
 {
@@ -40,8 +34,8 @@ fn read_quantity(s: &[u8], c: Cursor, width: usize, first: usize, kinds: u64) ->
             number: number.v,
             number_at: kind.c.at,
         };
-        return QuantityAt {
-            quantity: quantity,
+        return Got {
+            v: quantity,
             c: end,
         };
     }
@@ -52,25 +46,25 @@ fn read_quantity(s: &[u8], c: Cursor, width: usize, first: usize, kinds: u64) ->
         number: 0,
         number_at: 0,
     };
-    QuantityAt {
-        quantity: quantity,
+    Got {
+        v: quantity,
         c: end,
     }
 }
 
-pub fn read_speed(s: &[u8], c: Cursor) -> QuantityAt
+pub fn read_speed(s: &[u8], c: Cursor) -> Got<Quantity>
     ensures { Speeds s.now c result }
 {
     read_quantity(s, c, 3, SPEED_0.row, 7)
 }
 
-pub fn read_level_type(s: &[u8], c: Cursor) -> QuantityAt
+pub fn read_level_type(s: &[u8], c: Cursor) -> Got<Quantity>
     ensures { Levels s.now c result }
 {
     read_quantity(s, c, 2, LEVEL_0.row, 4)
 }
 
-pub fn read_degrees(s: &[u8], c: Cursor) -> QuantityAt
+pub fn read_degrees(s: &[u8], c: Cursor) -> Got<Quantity>
     ensures { Degrees s.now c result }
 {
     read_quantity(s, c, 1, DEGREES_0.row, 2)

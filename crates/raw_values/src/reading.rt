@@ -15,7 +15,7 @@ pub fn put_reading(line: &mut [u8; 1024], s: &[u8; 48], byte: u8, place: usize, 
         marks: 0,
     };
     let x = read_argument(s, c, byte);
-    let argument = x.argument;
+    let argument = x.v;
     let end = x.c;
     if end.why != 0 {
         return put_refused(line, end);

@@ -23,7 +23,7 @@ pub fn airport_part(s: &[u8], words: &mut [u64], n: usize, c: Cursor, has: u64, 
         return At { n: n, c: c };
     }
     let a = ia5(s, c, AIRPORT_SIZE);
-    let x = a.text;
+    let x = a.v;
     let d = a.c;
     if d.why != 0 {
         return At { n: n, c: d };
@@ -40,7 +40,7 @@ pub fn runway_part(s: &[u8], words: &mut [u64], n: usize, c: Cursor, has: u64, t
         return At { n: n, c: c };
     }
     let a = read_runway(s, c);
-    let x = a.runway;
+    let x = a.v;
     let d = a.c;
     if d.why != 0 {
         return At { n: n, c: d };
@@ -57,7 +57,7 @@ pub fn procedure_part(s: &[u8], words: &mut [u64], n: usize, c: Cursor, has: u64
         return At { n: n, c: c };
     }
     let a = read_procedure(s, c);
-    let x = a.procedure;
+    let x = a.v;
     let d = a.c;
     if d.why != 0 {
         return At { n: n, c: d };

@@ -16,7 +16,7 @@ use Rattle.atn.proofs.Places.{tells, rises}
 use Rattle.atn.proofs.Shift.{placeless, displaced, moved, moved_close, shift}
 use Rattle.per.proofs.Laws.{bit_of-part}
 use Rattle.cursor.specs.declared.place.Cursor.{Cursor}
-use Rattle.length_determinants.specs.declared.Measured.{Measured}
+use Rattle.cursor.specs.declared.place.Got.{Got}
 use Rattle.cursor.specs.Place.{put, Inside, Pulled, stuck, short, got, Led, Reads}
 use Rattle.cursor.specs.Place as place
 use Rattle.length_determinants.specs.Lengths.{Measures, Passes}
@@ -89,12 +89,12 @@ module _ (f : Fmt) (s : List ℕ) {c d : Cursor} (k : ℕ) (z : placeless f ≡ 
 
 ---------------------------------------------------------------- the string
 
-module _ (f : Fmt) {s : List ℕ} {c d : Cursor} {l : Measured} (z : placeless f ≡ true) (measures : Measures s c l) (passes : Passes l.c l.count d) where
+module _ (f : Fmt) {s : List ℕ} {c d : Cursor} {l : Got ℕ} (z : placeless f ≡ true) (measures : Measures s c l) (passes : Passes l.c l.v d) where
   abbrev reading : ℕ → ℕ → Ans
   reading u p = read (inner f) (0, 0) (bit_of s) u p
 
   abbrev behind : Cursor → List Rec → Type 0
-  behind e R = Reads (string_of f s l.count) s l.c e R
+  behind e R = Reads (string_of f s l.v) s l.c e R
 
   from-length : {e : Cursor} {R : List Rec} → behind e R → Reads reading s c e R
   unfolding read
@@ -104,29 +104,29 @@ module _ (f : Fmt) {s : List ℕ} {c d : Cursor} {l : Measured} (z : placeless f
   pub inner_lost : {n : ℕ} {w : List ℕ} → (d.why ≡ 0 → ⊥) → Tells 0 reading s c n w w (record { n = n; c = d })
   inner_lost h = record { recs = []; reads = from-length (record { led = λ i. go i ((passes.pulls s).gave i) }); told = told_none }
     where
-      go : Inside s l.c → Pulled s l.c l.count (record { v = uint (bit_of s) l.c.at l.count; c = d }) → Led (string_of f s l.count) l.c d []
+      go : Inside s l.c → Pulled s l.c l.v (record { v = uint (bit_of s) l.c.at l.v; c = d }) → Led (string_of f s l.v) l.c d []
       go i (stuck g q) = place.Led.stayed g q
-      go i (short g y q) = place.Led.failed (out (l.c.at + l.count - l.c.end)) l.c.at 0 [] (λ x. omega arith) g (pull_no (bit_of s) l.c.end l.c.at l.count _ y) i.0 (q ∙ rw (or_nil l.c.marks))
+      go i (short g y q) = place.Led.failed (out (l.c.at + l.v - l.c.end)) l.c.at 0 [] (λ x. omega arith) g (pull_no (bit_of s) l.c.end l.c.at l.v _ y) i.0 (q ∙ rw (or_nil l.c.marks))
       go i (got g y v q) = absurd (h (rw q refl))
 
   -- it is there, and was read as a part of the frame
-  pub inner_read : {b n : ℕ} {w w' : List ℕ} {r : At} → length s ≤ 65536 → d.why ≡ 0 → Runs b (λ u p. read f (0, 0) (bit_of (part s l.c.at (l.c.at + l.count))) u p) (part s l.c.at (l.c.at + l.count)) (window l.c.at l.count d.marks) n w w' r
+  pub inner_read : {b n : ℕ} {w w' : List ℕ} {r : At} → length s ≤ 65536 → d.why ≡ 0 → Runs b (λ u p. read f (0, 0) (bit_of (part s l.c.at (l.c.at + l.v))) u p) (part s l.c.at (l.c.at + l.v)) (window l.c.at l.v d.marks) n w w' r
       → Tells b reading s c n w (raised_places (8 * (l.c.at / 8)) (r.n - n) (space n) w') (record { n = r.n; c = closed d r.c })
   inner_read {b} {n} {w} {w'} {r} few h x = record { recs = relocated (8 * (l.c.at / 8)) x.recs; reads = from-length (record { led = λ i. go i ((passes.pulls s).gave i) }); told = told_moved (8 * (l.c.at / 8)) x.told }
     where
-      go : Inside s l.c → Pulled s l.c l.count (record { v = uint (bit_of s) l.c.at l.count; c = d }) → Led (string_of f s l.count) l.c (closed d r.c) (relocated (8 * (l.c.at / 8)) x.recs)
+      go : Inside s l.c → Pulled s l.c l.v (record { v = uint (bit_of s) l.c.at l.v; c = d }) → Led (string_of f s l.v) l.c (closed d r.c) (relocated (8 * (l.c.at / 8)) x.recs)
       go i (stuck g q) = absurd (g (rw q at h))
       go i (short g y q) = absurd (let u = rw q at h in omega arith)
-      go i (got g y v q) = close_led f s l.count z i few g y q (x.ran inside)
+      go i (got g y v q) = close_led f s l.v z i few g y q (x.ran inside)
         where
-          inside : Inside (part s l.c.at (l.c.at + l.count)) (window l.c.at l.count d.marks)
-          inside = (omega arith, omega (arith, i.1, y, length-take ((l.c.at + l.count + 7) / 8 - l.c.at / 8) (drop (l.c.at / 8) s), length-drop (l.c.at / 8) s))
+          inside : Inside (part s l.c.at (l.c.at + l.v)) (window l.c.at l.v d.marks)
+          inside = (omega arith, omega (arith, i.1, y, length-take ((l.c.at + l.v + 7) / 8 - l.c.at / 8) (drop (l.c.at / 8) s), length-drop (l.c.at / 8) s))
 
   -- it would be there, and the frame does not hold it: no cursor in the frame comes to this
-  pub inner_off : {e : Cursor} {n : ℕ} {w : List ℕ} → d.why ≡ 0 → length s * 8 < l.c.at + l.count → Tells 0 reading s c n w w (record { n = n; c = e })
+  pub inner_off : {e : Cursor} {n : ℕ} {w : List ℕ} → d.why ≡ 0 → length s * 8 < l.c.at + l.v → Tells 0 reading s c n w w (record { n = n; c = e })
   inner_off {e} h o = record { recs = []; reads = from-length (record { led = λ i. go i ((passes.pulls s).gave i) }); told = told_none }
     where
-      go : Inside s l.c → Pulled s l.c l.count (record { v = uint (bit_of s) l.c.at l.count; c = d }) → Led (string_of f s l.count) l.c e []
+      go : Inside s l.c → Pulled s l.c l.v (record { v = uint (bit_of s) l.c.at l.v; c = d }) → Led (string_of f s l.v) l.c e []
       go i (stuck g q) = absurd (g (rw q at h))
       go i (short g y q) = absurd (let u = rw q at h in omega arith)
       go i (got g y v q) = absurd (omega (arith, i.1))

@@ -3,9 +3,9 @@
 
 ghost use Rattle.std.specs.Prelude.{◌^◌, ◌<◌};
 ghost use Rattle.records.specs.Told.{Told};
-ghost use Rattle.angles.specs.Angles.{angle_recs, unless_absent, pair_recs, maybe_pair_recs};
+ghost use Rattle.angles.specs.Angles.{angle_recs, if_there, pair_recs, maybe_pair_recs};
 
-use angles::{Angle, MaybeAngle, MaybePair, Pair};
+use angles::{Angle, Form, Pair};
 use cpdlc_tags::{COORDINATES, LATITUDE, LONGITUDE};
 use field_ranges::table::{
     HUNDREDTHS, LATITUDE_DEGREES, LATITUDE_THOUSANDTHS, LONGITUDE_DEGREES, LONGITUDE_THOUSANDTHS,
@@ -26,26 +26,33 @@ fn tell_angle(
     requires { (n < 2 ^ 31) × (tag < 256) }
     ensures { Told 5 words.old words.new n result (angle_recs thousandths degrees tag x element) }
 {
-    let form = x.form;
-    let m = emit(words, n, tag, element, form.form, 0, x.at);
     let first_at = std::num::wrapping_add_usize(x.at, 2);
-    if form.form == 0 {
-        let a = emit(words, m, tag + 1, element, form.first, 0, first_at);
-        let side_at = std::num::wrapping_add_usize(first_at, thousandths);
-        return emit(words, a, tag + 6, element, x.side, 0, side_at);
+    match x.form {
+        Form::Thousandths(first) => {
+            let m = emit(words, n, tag, element, 0, 0, x.at);
+            let a = emit(words, m, tag + 1, element, first, 0, first_at);
+            let side_at = std::num::wrapping_add_usize(first_at, thousandths);
+            emit(words, a, tag + 6, element, x.side, 0, side_at)
+        }
+        Form::Hundredths(first, second) => {
+            let m = emit(words, n, tag, element, 1, 0, x.at);
+            let a = emit(words, m, tag + 2, element, first, 0, first_at);
+            let second_at = std::num::wrapping_add_usize(first_at, degrees);
+            let b = emit(words, a, tag + 3, element, second, 0, second_at);
+            let side_at = std::num::wrapping_add_usize(second_at, HUNDREDTHS.width());
+            emit(words, b, tag + 6, element, x.side, 0, side_at)
+        }
+        Form::Seconds(first, second, third) => {
+            let m = emit(words, n, tag, element, 2, 0, x.at);
+            let a = emit(words, m, tag + 2, element, first, 0, first_at);
+            let second_at = std::num::wrapping_add_usize(first_at, degrees);
+            let b = emit(words, a, tag + 4, element, second, 0, second_at);
+            let third_at = std::num::wrapping_add_usize(second_at, MINUTES.width());
+            let d = emit(words, b, tag + 5, element, third, 0, third_at);
+            let side_at = std::num::wrapping_add_usize(third_at, MINUTES.width());
+            emit(words, d, tag + 6, element, x.side, 0, side_at)
+        }
     }
-    let a = emit(words, m, tag + 2, element, form.first, 0, first_at);
-    let second_at = std::num::wrapping_add_usize(first_at, degrees);
-    if form.form == 1 {
-        let b = emit(words, a, tag + 3, element, form.second, 0, second_at);
-        let side_at = std::num::wrapping_add_usize(second_at, HUNDREDTHS.width());
-        return emit(words, b, tag + 6, element, x.side, 0, side_at);
-    }
-    let b = emit(words, a, tag + 4, element, form.second, 0, second_at);
-    let third_at = std::num::wrapping_add_usize(second_at, MINUTES.width());
-    let d = emit(words, b, tag + 5, element, form.third, 0, third_at);
-    let side_at = std::num::wrapping_add_usize(third_at, MINUTES.width());
-    emit(words, d, tag + 6, element, x.side, 0, side_at)
 }
 
 fn tell_maybe_angle(
@@ -55,24 +62,21 @@ fn tell_maybe_angle(
     tag: u64,
     thousandths: usize,
     degrees: usize,
-    x: MaybeAngle,
+    x: Option<Angle>,
 ) -> usize
     requires { (n < 2 ^ 31) × (tag < 256) }
-    ensures { Told 5 words.old words.new n result (unless_absent x.has (angle_recs thousandths degrees tag x.angle element)) }
+    ensures { Told 5 words.old words.new n result (if_there (λ a. angle_recs thousandths degrees tag a element) x) }
 {
-    if x.has == 0 {
-        return n;
+    match x {
+        None => n,
+        Some(angle) => tell_angle(words, n, element, tag, thousandths, degrees, angle),
     }
-    let angle = x.angle;
-    tell_angle(words, n, element, tag, thousandths, degrees, angle)
 }
 
 pub fn tell_pair(words: &mut [u64], n: usize, element: u64, x: Pair) -> usize
     requires { n < 2 ^ 30 }
     ensures { Told 11 words.old words.new n result (pair_recs x element) }
 {
-    let latitude = x.latitude;
-    let longitude = x.longitude;
     let a = emit(words, n, COORDINATES, element, 0, 0, x.at);
     let b = tell_maybe_angle(
         words,
@@ -81,7 +85,7 @@ pub fn tell_pair(words: &mut [u64], n: usize, element: u64, x: Pair) -> usize
         LATITUDE,
         LATITUDE_THOUSANDTHS.width(),
         LATITUDE_DEGREES.width(),
-        latitude,
+        x.latitude,
     );
     tell_maybe_angle(
         words,
@@ -90,17 +94,16 @@ pub fn tell_pair(words: &mut [u64], n: usize, element: u64, x: Pair) -> usize
         LONGITUDE,
         LONGITUDE_THOUSANDTHS.width(),
         LONGITUDE_DEGREES.width(),
-        longitude,
+        x.longitude,
     )
 }
 
-pub fn tell_maybe_pair(words: &mut [u64], n: usize, element: u64, x: MaybePair) -> usize
+pub fn tell_maybe_pair(words: &mut [u64], n: usize, element: u64, x: Option<Pair>) -> usize
     requires { n < 2 ^ 30 }
     ensures { Told 11 words.old words.new n result (maybe_pair_recs x element) }
 {
-    if x.has == 0 {
-        return n;
+    match x {
+        None => n,
+        Some(pair) => tell_pair(words, n, element, pair),
     }
-    let pair = x.pair;
-    tell_pair(words, n, element, pair)
 }

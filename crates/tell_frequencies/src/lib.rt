@@ -3,7 +3,7 @@
 
 ghost use Rattle.std.specs.Prelude.{◌<◌, ◌^◌};
 ghost use Rattle.records.specs.Told.{Told};
-ghost use Rattle.frequencies.specs.Records.{frequency_recs, HeldChannel};
+ghost use Rattle.frequencies.specs.Records.{frequency_recs, HeldFrequency};
 
 use cpdlc_tags::{FREQUENCY, FREQUENCY_NUMBER, SATELLITE_CHANNEL, SATELLITE_CHANNEL_X691};
 use frequencies::Frequency;
@@ -11,29 +11,30 @@ use records::emit;
 use tell::tell_channel;
 
 pub fn tell_frequency(words: &mut [u64], n: usize, element: u64, s: &[u8], x: Frequency) -> usize
-    requires { (n < 2 ^ 30) × HeldChannel s.now x.channel }
+    requires { (n < 2 ^ 30) × HeldFrequency s.now x }
     ensures { Told 5 words.old words.new n result (frequency_recs s.now x element) }
 {
-    let channel = x.channel;
-    let m = emit(words, n, FREQUENCY, element, x.kind, 0, x.kind_at);
-    if x.kind < 3 {
-        return emit(
-            words,
-            m,
-            FREQUENCY_NUMBER,
-            element,
-            x.number,
-            0,
-            x.number_at,
-        );
+    match x {
+        Frequency::Number {
+            kind,
+            kind_at,
+            number,
+            number_at,
+        } => {
+            let m = emit(words, n, FREQUENCY, element, kind, 0, kind_at);
+            emit(words, m, FREQUENCY_NUMBER, element, number, 0, number_at)
+        }
+        Frequency::Channel { kind_at, digits } => {
+            let m = emit(words, n, FREQUENCY, element, 3, 0, kind_at);
+            tell_channel(
+                words,
+                m,
+                SATELLITE_CHANNEL,
+                SATELLITE_CHANNEL_X691,
+                element,
+                s,
+                digits,
+            )
+        }
     }
-    tell_channel(
-        words,
-        m,
-        SATELLITE_CHANNEL,
-        SATELLITE_CHANNEL_X691,
-        element,
-        s,
-        channel,
-    )
 }

@@ -55,10 +55,8 @@ pub fn tell_departure(words: &mut [u64], n: usize, element: u64, s: &[u8], x: De
     requires { (n < 2 ^ 27) × Held s.now x.flight × HeldPosition s.now x.position }
     ensures { Told 142 words.old words.new n result (departure_recs s.now x element) }
 {
-    let flight = x.flight;
-    let position = x.position;
-    let a = tell_text(words, n, FLIGHT_IDENTIFICATION, element, s, flight);
-    let b = tell_position(words, a, element, s, position);
+    let a = tell_text(words, n, FLIGHT_IDENTIFICATION, element, s, x.flight);
+    let b = tell_position(words, a, element, s, x.position);
     let d = tell_note(
         words,
         b,

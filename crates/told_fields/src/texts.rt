@@ -22,8 +22,8 @@ pub fn letters(words: &mut [u64], at: At, s: &[u8], element: u64, tag: u64, rang
     let c = run.c;
     let text = Text {
         from: from,
-        at: run.text.at,
-        len: run.text.len,
+        at: run.v.at,
+        len: run.v.len,
     };
     let n = tell_text(words, at.n, tag, element, s, text);
     At { n: n, c: c }

@@ -12,7 +12,7 @@ fn case(frame: &[u8])
     let l = length(frame, start(frame, 0));
     let behind = l.c;
     let g = Got {
-        v: l.count as u64,
+        v: l.v as u64,
         c: behind,
     };
     print(b"length", frame, g);

@@ -5,24 +5,24 @@ use Rattle.angles.proofs.read_form.Goals as goal
 pub ranged-a-requires : goal.ranged-a-requires
 ranged-a-requires c = c.requires.0
 
-pub ranged-a-requires-then-f-eq1 : goal.ranged-a-requires-then-f-eq1
-ranged-a-requires-then-f-eq1 c = c.requires.1
+pub ranged-a-requires-in-1 : goal.ranged-a-requires-in-1
+ranged-a-requires-in-1 c = c.requires.1
 
-pub ranged-a-requires-then-f-eq2 : goal.ranged-a-requires-then-f-eq2
-ranged-a-requires-then-f-eq2 c = c.requires.1
+pub ranged-a-requires-in-2 : goal.ranged-a-requires-in-2
+ranged-a-requires-in-2 c = c.requires.1
 
-pub returns-then-f-eq0 : goal.returns-then-f-eq0
-returns-then-f-eq0 c =
-    form-zero c.bits-index.result c.bits-index.ensures (omega (arith, c.well_formed)) c.if-f-eq0.true c.ranged-a.result c.ranged-a.ensures
+pub returns-in-0 : goal.returns-in-0
+returns-in-0 c =
+    form-zero c.bits-index.result c.bits-index.ensures (omega (arith, c.well_formed)) c.in-0.is c.ranged-a.result c.ranged-a.ensures
 
-pub returns-then-f-eq1 : goal.returns-then-f-eq1
-returns-then-f-eq1 c =
-    form-one c.bits-index.result c.bits-index.ensures (omega (arith, c.well_formed)) c.if-f-eq1.true c.ranged-a-then-f-eq1.result c.ranged-a-then-f-eq1.ensures c.ranged-b.result c.ranged-b.ensures
+pub returns-in-1 : goal.returns-in-1
+returns-in-1 c =
+    form-one c.bits-index.result c.bits-index.ensures (omega (arith, c.well_formed)) c.in-1.is c.ranged-a-in-1.result c.ranged-a-in-1.ensures c.ranged-b.result c.ranged-b.ensures
 
-pub returns-then-f-eq2 : goal.returns-then-f-eq2
-returns-then-f-eq2 c =
-    form_two c.bits-index.result c.bits-index.ensures (omega (arith, c.well_formed)) c.if-f-eq2.true c.ranged-a-then-f-eq2.result c.ranged-a-then-f-eq2.ensures c.ranged-b-then-f-eq2.result c.ranged-b-then-f-eq2.ensures c.ranged-d.result c.ranged-d.ensures
+pub returns-in-2 : goal.returns-in-2
+returns-in-2 c =
+    form_two c.bits-index.result c.bits-index.ensures (omega (arith, c.well_formed)) c.in-2.is c.ranged-a-in-2.result c.ranged-a-in-2.ensures c.ranged-b-in-2.result c.ranged-b-in-2.ensures c.ranged-d.result c.ranged-d.ensures
 
-pub returns : goal.returns
-returns c =
-    form-none c.bits-index.result c.bits-index.ensures c.if-f-eq0.false c.if-f-eq1.false c.if-f-eq2.false c.stop-end.ensures
+pub returns-in_default : goal.returns-in_default
+returns-in_default c =
+    form-none c.bits-index.result c.bits-index.ensures (λ z. omega arith) (λ z. omega arith) (λ z. omega arith) c.stop.ensures

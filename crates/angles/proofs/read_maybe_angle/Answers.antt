@@ -5,7 +5,7 @@ pub read_angle-a-requires : goal.read_angle-a-requires
 read_angle-a-requires c = c.requires
 
 pub returns-then-has-eq0 : goal.returns-then-has-eq0
-returns-then-has-eq0 c = record { reads = λ t. rw c.no_angle-none.ensures (maybe_none _ c.if-has-eq0.true) }
+returns-then-has-eq0 c = record { reads = λ t. maybe_none _ c.if-has-eq0.true }
 
 pub returns : goal.returns
 returns c = record { reads = λ t. maybe_some _ c.if-has-eq0.false (c.read_angle-a.ensures.reads t) }

@@ -1,7 +1,7 @@
 use Rattle.field_ranges.specs.Ends.{lowest, highest}
 use Rattle.cursor.proofs.FormatLaws.{maybe_none, maybe_some}
 use Rattle.named_places.specs.Names.{procedure_recs}
-use Rattle.named_places.proofs.NameLaws.{held-text, held_none, takes_two_then_maybe}
+use Rattle.named_places.proofs.NameLaws.{held-text, takes_two_then_maybe}
 use Rattle.named_places.proofs.read_procedure.Goals as goal
 
 pub returns-then-flags-eq0 : goal.returns-then-flags-eq0
@@ -10,7 +10,7 @@ returns-then-flags-eq0 c =
     record {
       reads = λ t u v. takes_two_then_maybe c.presence-flags.result c.presence-flags.ensures (c.named-kind.ensures.name t) (c.ia5-name.ensures.text u) (maybe_none _ c.if-flags-eq0.true);
       held_name = held-text c.ia5-name.ensures;
-      held_transition = held_none;
+      held_transition = tt;
     }
 
 pub returns : goal.returns

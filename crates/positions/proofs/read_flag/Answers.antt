@@ -5,4 +5,4 @@ pub returns-then-flag-eq0 : goal.returns-then-flag-eq0
 returns-then-flag-eq0 c = flag_clear c.bits-flag.result c.bits-flag.ensures c.if-flag-eq0.true
 
 pub returns : goal.returns
-returns c = flag_set c.bits-flag.result c.bits-flag.ensures c.if-flag-eq0.false c.mark-end.ensures
+returns c = flag_set c.bits-flag.result c.bits-flag.ensures c.if-flag-eq0.false c.mark.ensures

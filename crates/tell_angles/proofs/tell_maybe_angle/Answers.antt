@@ -1,8 +1,6 @@
-use Rattle.tell_angles.proofs.TellLaws.{told-present, told-absent}
+use Rattle.std.proofs.Common.{arith}
+use Rattle.records.proofs.Telling.{told_none, told-within}
 use Rattle.tell_angles.proofs.tell_maybe_angle.Goals as goal
 
-pub returns-then-x-eq0 : goal.returns-then-x-eq0
-returns-then-x-eq0 c = told-absent _ _ c.if-x-eq0.true
-
-pub returns : goal.returns
-returns c = told-present _ c.if-x-eq0.false c.tell_angle.ensures
+pub returns-in-None : goal.returns-in-None
+returns-in-None c = rw c.in-None.is (told-within 5 (omega arith) told_none)

@@ -1,9 +1,6 @@
-use Rattle.records.proofs.Telling.{told-then, told-length}
+use Rattle.records.proofs.Telling.{told-then}
 use Rattle.named_places.specs.Names.{procedure_recs}
 use Rattle.tell_named_places.proofs.tell_procedure.Goals as goal
-
-pub shape_of-words : goal.shape_of-words
-shape_of-words c = told-length (told-then c.emit-a.ensures (told-then c.tell_text-b.ensures c.tell_maybe_text.ensures))
 
 pub returns : goal.returns
 unfolding procedure_recs
