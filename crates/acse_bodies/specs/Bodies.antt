@@ -30,7 +30,7 @@ abbrev pub unread_body : Cursor → ℕ → Body
 unread_body c m = record { first = Untold; next = Untold; c = place.marked c m }
 
 abbrev pub alone_body : Got Note → Body
-alone_body n = record { first = n.note; next = Untold; c = n.c }
+alone_body n = record { first = n.v; next = Untold; c = n.c }
 
 -- the body of the message with the index i
 pub record Chosen (s : List ℕ) (c : Cursor) (i : ℕ) (r : Body) : Type 0 where

@@ -14,7 +14,7 @@ note_recs (Told t v y q) = rec t 0 v y q ∷ []
 
 -- told unless the cursor has stopped
 abbrev pub note_at : Cursor → ℕ → ℕ → ℕ → ℕ → Got Note
-note_at c t v y q = record { note = cond (c.why == 0) (Told t v y q) Untold; c = c }
+note_at c t v y q = record { v = cond (c.why == 0) (Told t v y q) Untold; c = c }
 
 abbrev pub listed_reason : ℕ → Fmt
 listed_reason t = ext (listed t 30 (0 ∷ 1 ∷ 30 ∷ [])) (extended t)

@@ -8,7 +8,7 @@ ghost use Rattle.acse_reasons.specs.Notes.{note_at, note_recs, listed_reason};
 ghost use Rattle.acse_reasons.specs.SoFar.{Keeps};
 
 use super::few::few;
-use super::notes::note_at;
+use super::notes::{Note, note_at};
 use cursor::place::{Cursor, Got, mark};
 use field_ranges::table::RELEASE_REASON;
 use per::width::bits_for;
@@ -33,7 +33,7 @@ fn above(v: u64, highest: u64) -> u64
 // A number from 0 on. The highest is handed over and no range: so this is compiled into who calls it.
 pub fn reason(s: &[u8], c: Cursor, highest: u64, tag: u64) -> Got<Note>
     requires { highest < 256 }
-    ensures { Keeps (ext_reason tag highest) s.now c result.c (note_recs result.note) }
+    ensures { Keeps (ext_reason tag highest) s.now c result.c (note_recs result.v) }
 {
     let extension = few(s, c, 1);
     if extension.v != 0 {
@@ -59,7 +59,7 @@ fn unlisted(v: u64) -> u64
 
 // A release reason: some numbers of a range.
 pub fn release_reason(s: &[u8], c: Cursor, tag: u64) -> Got<Note>
-    ensures { Keeps (listed_reason tag) s.now c result.c (note_recs result.note) }
+    ensures { Keeps (listed_reason tag) s.now c result.c (note_recs result.v) }
 {
     let extension = few(s, c, 1);
     if extension.v != 0 {

@@ -43,13 +43,7 @@ fn read_form(s: &[u8], c: Cursor, thousandths: Range, degrees: Range) -> Got<For
 {
     let index = bits(s, c, 2);
     match index.v {
-        0 => {
-            let a = ranged(s, index.c, thousandths);
-            Got {
-                v: Form::Thousandths(a.v),
-                c: a.c,
-            }
-        }
+        0 => ranged(s, index.c, thousandths).map(Form::Thousandths),
         1 => {
             let a = ranged(s, index.c, degrees);
             let b = ranged(s, a.c, HUNDREDTHS);
@@ -105,11 +99,7 @@ fn read_maybe_angle(
     if has == 0 {
         return Got { v: None, c };
     }
-    let a = read_angle(s, c, thousandths, degrees);
-    Got {
-        v: Some(a.v),
-        c: a.c,
-    }
+    read_angle(s, c, thousandths, degrees).map(Some)
 }
 
 // Latitude and longitude, each of which may be absent.
@@ -144,12 +134,9 @@ pub fn read_latlon(s: &[u8], c: Cursor) -> Got<Pair>
 pub fn read_maybe_latlon(s: &[u8], c: Cursor, has: u64) -> Got<Option<Pair>>
     ensures { MaybePairs has s.now c result }
 {
+    let absent = Got { v: None, c };
     if has == 0 {
-        return Got { v: None, c };
+        return absent;
     }
-    let p = read_latlon(s, c);
-    Got {
-        v: Some(p.v),
-        c: p.c,
-    }
+    read_latlon(s, c).map(Some)
 }

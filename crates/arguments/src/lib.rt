@@ -11,13 +11,10 @@ pub fn read_argument(s: &[u8], c: Cursor, byte: u8) -> Got<Argument>
     ensures { Arguments byte s.now c result }
 {
     match byte {
-        0 => {
-            let none = Argument::Nothing;
-            Got {
-                v: none,
-                c: c,
-            }
-        }
+        0 => Got {
+            v: Argument::Nothing,
+            c,
+        },
         1 => place_arguments::position(s, c),
         2 => number_arguments::speed(s, c),
         3 => name_arguments::speed_type(s, c),
@@ -34,13 +31,9 @@ pub fn read_argument(s: &[u8], c: Cursor, byte: u8) -> Got<Argument>
         14 => number_arguments::runway(s, c),
         15 => place_arguments::coordinates(s, c),
         16 => place_arguments::departure(s, c),
-        _ => {
-            let end = stop(c, 5, 0);
-            let none = Argument::Nothing;
-            Got {
-                v: none,
-                c: end,
-            }
-        }
+        _ => Got {
+            v: Argument::Nothing,
+            c: stop(c, 5, 0),
+        },
     }
 }

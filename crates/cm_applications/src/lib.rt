@@ -73,13 +73,11 @@ pub fn entries(words: &mut [u64], at: At, s: &[u8], addressed: bool, tag: u64) -
     let count = g.v;
     let c = g.c;
     let mut z = At { n: at.n, c: c };
-    let mut i: u64 = 0;
-    while i < count {
+    for i in 0..count {
         z = entry(words, z, s, addressed, tag, i + 1);
         if z.c.why != 0 {
             return z;
         }
-        i += 1;
     }
     z
 }

@@ -26,18 +26,19 @@ pub fn read_code(s: &[u8], c: Cursor) -> Got<Code>
     let second = ranged(s, first.c, CODE_DIGIT);
     let third = ranged(s, second.c, CODE_DIGIT);
     let fourth = ranged(s, third.c, CODE_DIGIT);
-    let end = fourth.c;
-    let code = Code {
-        first: first.v,
-        first_at: c.at,
-        second: second.v,
-        second_at: first.c.at,
-        third: third.v,
-        third_at: second.c.at,
-        fourth: fourth.v,
-        fourth_at: third.c.at,
-    };
-    Got { v: code, c: end }
+    Got {
+        v: Code {
+            first: first.v,
+            first_at: c.at,
+            second: second.v,
+            second_at: first.c.at,
+            third: third.v,
+            third_at: second.c.at,
+            fourth: fourth.v,
+            fourth_at: third.c.at,
+        },
+        c: fourth.c,
+    }
 }
 
 #[derive(Clone, Copy)]
@@ -53,15 +54,13 @@ pub fn read_runway(s: &[u8], c: Cursor) -> Got<Runway>
 {
     let direction = ranged(s, c, RUNWAY);
     let side = ranged(s, direction.c, RUNWAY_SIDE);
-    let end = side.c;
-    let runway = Runway {
-        direction: direction.v,
-        direction_at: c.at,
-        side: side.v,
-        side_at: direction.c.at,
-    };
     Got {
-        v: runway,
-        c: end,
+        v: Runway {
+            direction: direction.v,
+            direction_at: c.at,
+            side: side.v,
+            side_at: direction.c.at,
+        },
+        c: side.c,
     }
 }

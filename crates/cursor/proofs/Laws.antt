@@ -11,6 +11,10 @@ use Rattle.cursor.specs.declared.place.Cursor.{Cursor}
 use Rattle.cursor.specs.declared.place.Got.{Got}
 use Rattle.cursor.specs.Place.{number, put, stopped, marked, Inside, Pulled, stuck, short, got, Pulls, Led, stayed, went, failed, Reads}
 
+-- what was read, from its value and the cursor behind it
+pub got_is : {A : Type 0} {x : A} {c : Cursor} {r : Got A} → r.v ≡ x → r.c ≡ c → r ≡ record { v = x; c = c }
+got_is h q = rw (← h, ← q) refl
+
 -- the window stays
 pub led_inside : (k : ℕ → ℕ → Ans) (s : List ℕ) (c d : Cursor) {R : List Rec} → Led k c d R → Inside s c → Inside s d
 led_inside k s c d (stayed h q) i = rw q i

@@ -13,10 +13,25 @@ pub struct Cursor {
     pub marks: u64,
 }
 
+// What was read, and the cursor behind it.
 #[derive(Clone, Copy)]
 pub struct Got<T> {
     pub v: T,
     pub c: Cursor,
+}
+
+impl<T> Got<T> {
+    // What was read, as another value: the cursor behind it stays.
+    pub fn map<U, F: FnOnce(T) -> U>(self, f: F) -> Got<U>
+        requires { F.pre f self.v }
+        ensures value { F.post f self.v result.v }
+        ensures place { result.c ≡ self.c }
+    {
+        Got {
+            v: f(self.v),
+            c: self.c,
+        }
+    }
 }
 
 // Why a reading stopped that lacked so many bits.

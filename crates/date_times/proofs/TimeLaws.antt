@@ -23,7 +23,7 @@ use Rattle.date_times.specs.Times.{bits, DateTimes, date_time_recs}
 abbrev time : Cursor → Got ℕ → Got ℕ → Got ℕ → Got ℕ → Got ℕ → Got ℕ → Got DateTime
 time c year month day hours minutes seconds =
     record {
-      time = record { at = c.at; year = year.v; month = month.v; day = day.v; hours = hours.v; minutes = minutes.v; seconds = seconds.v };
+      v = record { at = c.at; year = year.v; month = month.v; day = day.v; hours = hours.v; minutes = minutes.v; seconds = seconds.v };
       c = seconds.c;
     }
 
@@ -35,7 +35,7 @@ told_at v b d e f g n =
 module _ {s : List ℕ} {c : Cursor} (year month day hours minutes seconds : Got ℕ) (fits : c.end < 2 ^ 64)
     (a : Ranged rows.year s c year) (b : Ranged rows.month s year.c month) (d : Ranged rows.day s month.c day) (e : Ranged rows.hours s day.c hours) (f : Ranged rows.minutes s hours.c minutes) (g : Ranged rows.minutes s minutes.c seconds) where
   -- where the reading went on, each number stands behind the bits of those before
-  same-places : Inside s c → seconds.c.why ≡ 0 → (n : ℕ) → told_at (time c year month day hours minutes seconds).time year.c.at month.c.at day.c.at hours.c.at minutes.c.at n ≡ date_time_recs (time c year month day hours minutes seconds).time n
+  same-places : Inside s c → seconds.c.why ≡ 0 → (n : ℕ) → told_at (time c year month day hours minutes seconds).v year.c.at month.c.at day.c.at hours.c.at minutes.c.at n ≡ date_time_recs (time c year month day hours minutes seconds).v n
   unfolding lowest highest extent width width_in word
   same-places i z n =
       let behind-year = number_along 1 along_here a in
@@ -55,7 +55,7 @@ module _ {s : List ℕ} {c : Cursor} (year month day hours minutes seconds : Got
   in_a_row =
       record {
         takes =
-            takes_told (told_at (time c year month day hours minutes seconds).time year.c.at month.c.at day.c.at hours.c.at minutes.c.at) (date_time_recs (time c year month day hours minutes seconds).time) same-places
+            takes_told (told_at (time c year month day hours minutes seconds).v year.c.at month.c.at day.c.at hours.c.at minutes.c.at) (date_time_recs (time c year month day hours minutes seconds).v) same-places
             (takes_plain refl refl
             (fields_must (takes_plain refl refl (fields_must (a.number 11) (fields_must (b.number 12) (fields_last (d.number 13)))))
             (fields_last (takes_plain refl refl (fields_must (e.number 14) (fields_must (f.number 15) (fields_last (g.number 16))))))));

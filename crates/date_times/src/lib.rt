@@ -57,17 +57,18 @@ pub fn read_date_time(s: &[u8], c: Cursor) -> Got<DateTime>
             let hours = part(day.c, first.v, 0, HOURS);
             let minutes = part(hours.c, second.v, behind_minutes, MINUTES);
             let seconds = part(minutes.c, second.v, 0, MINUTES);
-            let end = seconds.c;
-            let time = DateTime {
-                at: c.at,
-                year: year.v,
-                month: month.v,
-                day: day.v,
-                hours: hours.v,
-                minutes: minutes.v,
-                seconds: seconds.v,
+            return Got {
+                v: DateTime {
+                    at: c.at,
+                    year: year.v,
+                    month: month.v,
+                    day: day.v,
+                    hours: hours.v,
+                    minutes: minutes.v,
+                    seconds: seconds.v,
+                },
+                c: seconds.c,
             };
-            return Got { v: time, c: end };
         }
     }
     one_by_one(s, c)

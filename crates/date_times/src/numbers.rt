@@ -15,15 +15,16 @@ pub fn one_by_one(s: &[u8], c: Cursor) -> Got<DateTime>
     let hours = ranged(s, day.c, HOURS);
     let minutes = ranged(s, hours.c, MINUTES);
     let seconds = ranged(s, minutes.c, MINUTES);
-    let end = seconds.c;
-    let time = DateTime {
-        at: c.at,
-        year: year.v,
-        month: month.v,
-        day: day.v,
-        hours: hours.v,
-        minutes: minutes.v,
-        seconds: seconds.v,
-    };
-    Got { v: time, c: end }
+    Got {
+        v: DateTime {
+            at: c.at,
+            year: year.v,
+            month: month.v,
+            day: day.v,
+            hours: hours.v,
+            minutes: minutes.v,
+            seconds: seconds.v,
+        },
+        c: seconds.c,
+    }
 }

@@ -75,10 +75,8 @@ pub fn read_elements(s: &[u8], words: &mut [u64], x: At, table: &[u8], i: u64, l
     ensures { Runs (left * 143) (elements_at table.now i left s.now) s.now x.c x.n words.old words.new result }
 {
     let mut y = x;
-    let mut k: u64 = 0;
-    while k < left {
+    for k in 0..left {
         y = read_element(s, words, y, table, i + k);
-        k += 1;
     }
     y
 }

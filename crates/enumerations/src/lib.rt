@@ -28,21 +28,24 @@ fn read_name(s: &[u8], c: Cursor, range: Range) -> Got<Name>
     let extension = bits(s, c, 1);
     if extension.v == 0 {
         let g = named(s, extension.c, range);
-        let end = g.c;
-        let name = Name {
-            value: g.v,
-            second: 0,
-            at: extension.c.at,
+        return Got {
+            v: Name {
+                value: g.v,
+                second: 0,
+                at: extension.c.at,
+            },
+            c: g.c,
         };
-        return Got { v: name, c: end };
     }
     let end = mark(extension.c, 2);
-    let name = Name {
-        value: 0,
-        second: 1,
-        at: end.at,
-    };
-    Got { v: name, c: end }
+    Got {
+        v: Name {
+            value: 0,
+            second: 1,
+            at: end.at,
+        },
+        c: end,
+    }
 }
 
 pub fn read_speed_type(s: &[u8], c: Cursor) -> Got<Name>
@@ -88,17 +91,12 @@ pub fn read_speed_type_triple(s: &[u8], c: Cursor) -> Got<Triple>
     let a = read_speed_type(s, c);
     let b = read_speed_type(s, a.c);
     let d = read_speed_type(s, b.c);
-    let first = a.v;
-    let second = b.v;
-    let third = d.v;
-    let end = d.c;
-    let triple = Triple {
-        first: first,
-        second: second,
-        third: third,
-    };
     Got {
-        v: triple,
-        c: end,
+        v: Triple {
+            first: a.v,
+            second: b.v,
+            third: d.v,
+        },
+        c: d.c,
     }
 }

@@ -43,6 +43,6 @@ module _ {s : List ℕ} {c d : Cursor} (passes : Passes c 24 d) where
       same x i = sym (sized_go (bit_of s) c.end c.at 24 24 24 (bits x) (omega arith) (omega arith) tt (omega (arith, i.0)) ∙ ap (λ (q : ℕ). bits x 24 q) (omega arith))
 
 pub header_read : {s : List ℕ} {c d : Cursor} {t : Got DateTime} {x : Got Text} → DateTimes s c t → Texts rows.flight_size s t.c x → Passes x.c 24 d
-    → Headers s c (record { header = record { time = t.v; name = x.v; address = x.c.at }; c = d })
+    → Headers s c (record { v = record { time = t.v; name = x.v; address = x.c.at }; c = d })
 unfolding lowest highest flags all_read
 header_read h g p = record { takes = takes_plain refl refl (fields_must h.takes (fields_must (g.text 19) (fields_last (address p)))); few = g.few; held = g.held }

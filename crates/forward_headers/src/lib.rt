@@ -28,19 +28,14 @@ pub fn read_header(s: &[u8], c: Cursor) -> Got<Header>
     ensures { Headers s.now c result }
 {
     let t = read_date_time(s, c);
-    let time = t.v;
     let id = ia5(s, t.c, FLIGHT_SIZE);
-    let name = id.v;
-    let d = id.c;
-    let end = pass(d, Bits(24));
-    let header = Header {
-        time: time,
-        name: name,
-        address: d.at,
-    };
     Got {
-        v: header,
-        c: end,
+        v: Header {
+            time: t.v,
+            name: id.v,
+            address: id.c.at,
+        },
+        c: pass(id.c, Bits(24)),
     }
 }
 
@@ -48,10 +43,8 @@ pub fn tell_header(words: &mut [u64], n: usize, s: &[u8], x: Header) -> usize
     requires { (n < 2 ^ 30) × (x.name.len < 512) × InFrame 7 s.now x.name }
     ensures { Told 71 words.old words.new n result (header_recs s.now x 0) }
 {
-    let time = x.time;
-    let name = x.name;
-    let a = tell_date_time(words, n, time);
-    let b = tell_text(words, a, AIRCRAFT_ID, 0, s, name);
+    let a = tell_date_time(words, n, x.time);
+    let b = tell_text(words, a, AIRCRAFT_ID, 0, s, x.name);
     emit(
         words,
         b,

@@ -85,10 +85,9 @@ fn begin_legs(s: &[u8], words: &mut [u64], n: usize, c: Cursor, legs: u64) -> Be
     let octets = s.len();
     let room = words.len();
     let mut m = n;
-    let mut i: u64 = 0;
     if !is_ample(octets, room, n, why) {
         return Begun {
-            legs: i,
+            legs: 0,
             n: m,
             at: p,
             marks: marks,
@@ -96,7 +95,7 @@ fn begin_legs(s: &[u8], words: &mut [u64], n: usize, c: Cursor, legs: u64) -> Be
     }
     let last_bit = (octets - AMPLE_OCTETS) * 8;
     let last_word = room - words_for(AMPLE_RECORDS);
-    while i < legs {
+    for i in 0..legs {
         if last_bit < p || last_word < words_for(m) {
             return Begun {
                 legs: i,
@@ -118,14 +117,13 @@ fn begin_legs(s: &[u8], words: &mut [u64], n: usize, c: Cursor, legs: u64) -> Be
         }
         m = r.n;
         p = q;
-        marks = marks | r.marks;
-        i += 1;
+        marks |= r.marks;
     }
     Begun {
-        legs: i,
+        legs,
         n: m,
         at: p,
-        marks: marks,
+        marks,
     }
 }
 
@@ -138,7 +136,6 @@ pub fn read_legs(s: &[u8], words: &mut [u64], n: usize, c: Cursor) -> At
     let legs = count.v;
     let first = count.c;
     let b = begin_legs(s, words, n, first, legs);
-    let mut i = b.legs;
     let mut m = b.n;
     let mut d = Cursor {
         at: b.at,
@@ -146,11 +143,10 @@ pub fn read_legs(s: &[u8], words: &mut [u64], n: usize, c: Cursor) -> At
         why: first.why,
         marks: b.marks,
     };
-    while i < legs {
+    for i in b.legs..legs {
         let t = put_value(s, words, m, d, i + 1);
         m = t.n;
         d = t.c;
-        i += 1;
     }
     At { n: m, c: d }
 }

@@ -30,16 +30,12 @@ fn read_bearing(s: &[u8], c: Cursor) -> Got<Bearing>
 {
     let place = read_published(s, c);
     let degrees = read_degrees(s, place.c);
-    let p = place.v;
-    let q = degrees.v;
-    let end = degrees.c;
-    let bearing = Bearing {
-        place: p,
-        degrees: q,
-    };
     Got {
-        v: bearing,
-        c: end,
+        v: Bearing {
+            place: place.v,
+            degrees: degrees.v,
+        },
+        c: degrees.c,
     }
 }
 
@@ -56,55 +52,25 @@ pub fn read_leg(s: &[u8], c: Cursor) -> Got<Leg>
     ensures { Legs s.now c result }
 {
     let index = bits(s, c, 3);
-    let i = index.v;
-    if i == 0 {
-        let a = read_published(s, index.c);
-        let x = a.published;
-        let end = a.c;
-        return Got {
-            v: Leg::Place(x),
-            c: end,
-        };
-    }
-    if i == 1 {
-        let a = read_latlon(s, index.c);
-        let x = a.pair;
-        let end = a.c;
-        return Got {
-            v: Leg::Coordinates(x),
-            c: end,
-        };
-    }
-    if i == 2 {
-        let a = read_bearing(s, index.c);
-        let b = read_bearing(s, a.c);
-        let x = a.bearing;
-        let y = b.v;
-        let end = b.c;
-        return Got {
-            v: Leg::Between(x, y),
-            c: end,
-        };
-    }
-    if i == 3 {
-        let end = read_ranging(s, index.c);
-        return Got {
+    match index.v {
+        0 => read_published(s, index.c).map(Leg::Place),
+        1 => read_latlon(s, index.c).map(Leg::Coordinates),
+        2 => {
+            let a = read_bearing(s, index.c);
+            let b = read_bearing(s, a.c);
+            Got {
+                v: Leg::Between(a.v, b.v),
+                c: b.c,
+            }
+        }
+        3 => Got {
             v: Leg::Unread,
-            c: end,
-        };
-    }
-    if i == 4 {
-        let a = ia5(s, index.c, ROUTE_SIZE);
-        let x = a.v;
-        let end = a.c;
-        return Got {
-            v: Leg::Designator(x),
-            c: end,
-        };
-    }
-    let end = stop(index.c, 5, 1);
-    Got {
-        v: Leg::Unread,
-        c: end,
+            c: read_ranging(s, index.c),
+        },
+        4 => ia5(s, index.c, ROUTE_SIZE).map(Leg::Designator),
+        _ => Got {
+            v: Leg::Unread,
+            c: stop(index.c, 5, 1),
+        },
     }
 }

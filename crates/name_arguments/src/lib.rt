@@ -13,77 +13,35 @@ use enumerations::{
 pub fn speed_type(s: &[u8], c: Cursor) -> Got<Argument>
     ensures { Arguments 3 s.now c result }
 {
-    let x = read_speed_type(s, c);
-    let value = x.v;
-    let end = x.c;
-    let argument = Argument::SpeedType(value);
-    Got {
-        v: argument,
-        c: end,
-    }
+    read_speed_type(s, c).map(Argument::SpeedType)
 }
 
 pub fn speed_types(s: &[u8], c: Cursor) -> Got<Argument>
     ensures { Arguments 4 s.now c result }
 {
-    let x = read_speed_type_triple(s, c);
-    let value = x.v;
-    let end = x.c;
-    let argument = Argument::SpeedTypes(value);
-    Got {
-        v: argument,
-        c: end,
-    }
+    read_speed_type_triple(s, c).map(Argument::SpeedTypes)
 }
 
 pub fn traffic_type(s: &[u8], c: Cursor) -> Got<Argument>
     ensures { Arguments 9 s.now c result }
 {
-    let x = read_traffic_type(s, c);
-    let value = x.v;
-    let end = x.c;
-    let argument = Argument::TrafficType(value);
-    Got {
-        v: argument,
-        c: end,
-    }
+    read_traffic_type(s, c).map(Argument::TrafficType)
 }
 
 pub fn clearance_type(s: &[u8], c: Cursor) -> Got<Argument>
     ensures { Arguments 10 s.now c result }
 {
-    let x = read_clearance_type(s, c);
-    let value = x.v;
-    let end = x.c;
-    let argument = Argument::ClearanceType(value);
-    Got {
-        v: argument,
-        c: end,
-    }
+    read_clearance_type(s, c).map(Argument::ClearanceType)
 }
 
 pub fn error_information(s: &[u8], c: Cursor) -> Got<Argument>
     ensures { Arguments 11 s.now c result }
 {
-    let x = read_error_information(s, c);
-    let value = x.v;
-    let end = x.c;
-    let argument = Argument::ErrorInformation(value);
-    Got {
-        v: argument,
-        c: end,
-    }
+    read_error_information(s, c).map(Argument::ErrorInformation)
 }
 
 pub fn facility_function(s: &[u8], c: Cursor) -> Got<Argument>
     ensures { Arguments 12 s.now c result }
 {
-    let x = read_facility_function(s, c);
-    let value = x.v;
-    let end = x.c;
-    let argument = Argument::FacilityFunction(value);
-    Got {
-        v: argument,
-        c: end,
-    }
+    read_facility_function(s, c).map(Argument::FacilityFunction)
 }

@@ -12,77 +12,35 @@ use quantities::{read_degrees, read_level_type, read_speed};
 pub fn speed(s: &[u8], c: Cursor) -> Got<Argument>
     ensures { Arguments 2 s.now c result }
 {
-    let x = read_speed(s, c);
-    let value = x.v;
-    let end = x.c;
-    let argument = Argument::Speed(value);
-    Got {
-        v: argument,
-        c: end,
-    }
+    read_speed(s, c).map(Argument::Speed)
 }
 
 pub fn level(s: &[u8], c: Cursor) -> Got<Argument>
     ensures { Arguments 5 s.now c result }
 {
-    let x = read_level_type(s, c);
-    let value = x.v;
-    let end = x.c;
-    let argument = Argument::Level(value);
-    Got {
-        v: argument,
-        c: end,
-    }
+    read_level_type(s, c).map(Argument::Level)
 }
 
 pub fn degrees(s: &[u8], c: Cursor) -> Got<Argument>
     ensures { Arguments 6 s.now c result }
 {
-    let x = read_degrees(s, c);
-    let value = x.v;
-    let end = x.c;
-    let argument = Argument::Degrees(value);
-    Got {
-        v: argument,
-        c: end,
-    }
+    read_degrees(s, c).map(Argument::Degrees)
 }
 
 pub fn frequency(s: &[u8], c: Cursor) -> Got<Argument>
     ensures { Arguments 7 s.now c result }
 {
-    let x = read_frequency(s, c);
-    let value = x.v;
-    let end = x.c;
-    let argument = Argument::Frequency(value);
-    Got {
-        v: argument,
-        c: end,
-    }
+    read_frequency(s, c).map(Argument::Frequency)
 }
 
 pub fn code(s: &[u8], c: Cursor) -> Got<Argument>
     ensures { Arguments 8 s.now c result }
 {
-    let x = read_code(s, c);
-    let value = x.v;
-    let end = x.c;
-    let argument = Argument::Code(value);
-    Got {
-        v: argument,
-        c: end,
-    }
+    read_code(s, c).map(Argument::Code)
 }
 
 pub fn runway(s: &[u8], c: Cursor) -> Got<Argument>
     ensures { Arguments 14 s.now c result }
 {
-    let x = read_runway(s, c);
-    let value = x.v;
-    let end = x.c;
-    let argument = Argument::Runway(value);
-    Got {
-        v: argument,
-        c: end,
-    }
+    read_runway(s, c).map(Argument::Runway)
 }

@@ -12,51 +12,23 @@ use positions::{read_departure_clearance, read_position};
 pub fn position(s: &[u8], c: Cursor) -> Got<Argument>
     ensures { Arguments 1 s.now c result }
 {
-    let x = read_position(s, c);
-    let value = x.v;
-    let end = x.c;
-    let argument = Argument::Position(value);
-    Got {
-        v: argument,
-        c: end,
-    }
+    read_position(s, c).map(Argument::Position)
 }
 
 pub fn procedure(s: &[u8], c: Cursor) -> Got<Argument>
     ensures { Arguments 13 s.now c result }
 {
-    let x = read_procedure(s, c);
-    let value = x.v;
-    let end = x.c;
-    let argument = Argument::Procedure(value);
-    Got {
-        v: argument,
-        c: end,
-    }
+    read_procedure(s, c).map(Argument::Procedure)
 }
 
 pub fn coordinates(s: &[u8], c: Cursor) -> Got<Argument>
     ensures { Arguments 15 s.now c result }
 {
-    let x = read_latlon(s, c);
-    let value = x.v;
-    let end = x.c;
-    let argument = Argument::Coordinates(value);
-    Got {
-        v: argument,
-        c: end,
-    }
+    read_latlon(s, c).map(Argument::Coordinates)
 }
 
 pub fn departure(s: &[u8], c: Cursor) -> Got<Argument>
     ensures { Arguments 16 s.now c result }
 {
-    let x = read_departure_clearance(s, c);
-    let value = x.v;
-    let end = x.c;
-    let argument = Argument::Departure(value);
-    Got {
-        v: argument,
-        c: end,
-    }
+    read_departure_clearance(s, c).map(Argument::Departure)
 }

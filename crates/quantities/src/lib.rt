@@ -27,28 +27,24 @@ fn read_quantity(s: &[u8], c: Cursor, width: usize, first: usize, kinds: u64) ->
     if k < kinds {
         let range = range_at(first + k as usize);
         let number = ranged(s, kind.c, range);
-        let end = number.c;
-        let quantity = Quantity {
-            kind: k,
-            kind_at: c.at,
-            number: number.v,
-            number_at: kind.c.at,
-        };
         return Got {
-            v: quantity,
-            c: end,
+            v: Quantity {
+                kind: k,
+                kind_at: c.at,
+                number: number.v,
+                number_at: kind.c.at,
+            },
+            c: number.c,
         };
     }
-    let end = stop(kind.c, 5, 1);
-    let quantity = Quantity {
-        kind: k,
-        kind_at: c.at,
-        number: 0,
-        number_at: 0,
-    };
     Got {
-        v: quantity,
-        c: end,
+        v: Quantity {
+            kind: k,
+            kind_at: c.at,
+            number: 0,
+            number_at: 0,
+        },
+        c: stop(kind.c, 5, 1),
     }
 }
 

@@ -81,7 +81,7 @@ module _ {s : List ℕ} {p : ℕ} (small : length s ≤ 65536) where
       let bits : Pulls s (place s (p + 1 + 1)) 14 (record { v = n; c = place s q }) = pulled (omega arith) (omega arith) held in
       head_long (omega arith, omega arith) form (λ z. omega arith) more refl (known_some refl bits) (rw (le-leb 128 n high) (marked-nil (place s q)))
 
-  pub measured : {n q : ℕ} → Shortest (bit_of s) p n q → q ≤ length s * 8 → Measures s (place s p) (record { count = n; c = place s q })
+  pub measured : {n q : ℕ} → Shortest (bit_of s) p n q → q ≤ length s * 8 → Measures s (place s p) (record { v = n; c = place s q })
   measured (one_octet low worth behind) held = measures_short (pulled (sym worth) behind held) refl low
   measured (two_octets high low worth behind) held = measures_in small (omega arith) (simp zero-add at (sums_last {sum = 0} (omega arith, omega arith) small (omega arith) (long-form high low worth behind held)))
 

@@ -18,10 +18,8 @@ fn tell_bearing(words: &mut [u64], n: usize, s: &[u8], x: Bearing) -> usize
     requires { (n < 2 ^ 28) × Held s.now x.place.named.name }
     ensures { Told 78 words.old words.new n result (bearing_recs s.now x 0) }
 {
-    let place = x.place;
-    let degrees = x.degrees;
-    let m = tell_published(words, n, 0, s, place);
-    tell_quantity(words, m, 0, DEGREES, DEGREES_NUMBER, degrees)
+    let m = tell_published(words, n, 0, s, x.place);
+    tell_quantity(words, m, 0, DEGREES, DEGREES_NUMBER, x.degrees)
 }
 
 // A leg stands outside the elements, and starts at `at`. What cannot be read has no records.

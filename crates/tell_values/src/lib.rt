@@ -39,12 +39,9 @@ pub fn tell_triple(words: &mut [u64], n: usize, element: u64, x: Triple) -> usiz
     requires { n < 2 ^ 30 }
     ensures { Told 3 words.old words.new n result (triple_recs x element) }
 {
-    let first = x.first;
-    let second = x.second;
-    let third = x.third;
-    let a = tell_name(words, n, element, SPEED_TYPE, first);
-    let b = tell_name(words, a, element, SPEED_TYPE, second);
-    tell_name(words, b, element, SPEED_TYPE, third)
+    let a = tell_name(words, n, element, SPEED_TYPE, x.first);
+    let b = tell_name(words, a, element, SPEED_TYPE, x.second);
+    tell_name(words, b, element, SPEED_TYPE, x.third)
 }
 
 pub fn tell_code(words: &mut [u64], n: usize, element: u64, x: Code) -> usize

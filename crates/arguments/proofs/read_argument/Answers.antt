@@ -6,4 +6,4 @@ pub returns-in-0 : goal.returns-in-0
 returns-in-0 c = of_byte c.in-0.is nothing
 
 pub returns-in_default : goal.returns-in_default
-returns-in_default c = no_reader_lem (omega arith) c.stop-end.ensures
+returns-in_default c = no_reader_lem (omega arith) c.stop.ensures

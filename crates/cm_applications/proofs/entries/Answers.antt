@@ -26,12 +26,6 @@ shape_of-words-then-z-ne0 c = does_length (entries-more c.loop-i.invariant.1 c.e
 pub returns-then-z-ne0 : goal.returns-then-z-ne0
 returns-then-z-ne0 c = does_list c.args.addressed c.size-g.result c.size-g.ensures (entries-stopped _ (omega arith) c.if-z-ne0.true (entries-more c.loop-i.invariant.1 c.entry-z.ensures))
 
-pub overflow_add-i-in-loop-i : goal.overflow_add-i-in-loop-i
-overflow_add-i-in-loop-i c = omega arith
-
-pub loop-i-smaller : goal.loop-i-smaller
-loop-i-smaller c = omega arith
-
 pub loop-i-preserved : goal.loop-i-preserved
 loop-i-preserved c = (omega arith, entries-more c.loop-i.invariant.1 c.entry-z.ensures)
 

@@ -7,6 +7,3 @@ use Rattle.cm_applications.proofs.entries.Given as goal
 
 abbrev pub invariant-loop-i : goal.invariant-loop-i
 invariant-loop-i l = (l.i ≤ l.count) × Does (l.i * 3) 0 (Times (entry_of l.addressed l.tag) 1 l.i l.s) l.initial.z l.z l.initial.words l.words
-
-abbrev pub decreases-loop-i : goal.decreases-loop-i
-decreases-loop-i l = l.count - l.i

@@ -23,9 +23,3 @@ shape_of-words c = c.loop-k.invariant.room
 
 pub returns : goal.returns
 returns c = walking_done _ _ _ c.loop-k.invariant c.loop-k-test.false
-
-pub overflow_add-k : goal.overflow_add-k
-overflow_add-k c = omega arith
-
-pub loop-k-smaller : goal.loop-k-smaller
-loop-k-smaller c = omega arith

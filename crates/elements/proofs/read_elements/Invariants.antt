@@ -5,6 +5,3 @@ use Rattle.elements.proofs.read_elements.Given as goal
 
 abbrev pub invariant-loop-k : goal.invariant-loop-k
 invariant-loop-k l = Walking l.table l.i l.left l.k l.s l.initial.y.c l.initial.y.n l.initial.words l.words l.y
-
-abbrev pub decreases-loop-k : goal.decreases-loop-k
-decreases-loop-k l = l.left - l.k

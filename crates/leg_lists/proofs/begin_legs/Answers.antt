@@ -1,3 +1,4 @@
+use mathlib.Core.Path.{◌≡◌}
 use Prim.Native.Nat.{◌+◌}
 use native.Mathlib.Omega.{arith}
 use Rattle.atn.specs.Reading.{or}
@@ -71,13 +72,7 @@ pub shape_of-words : goal.shape_of-words
 shape_of-words c = told-length c.loop-i.invariant.1.told
 
 pub returns : goal.returns
-returns c = c.loop-i.invariant
+returns c = let e : c.loop-i.i ≡ c.args.legs = omega arith in (omega arith, rw e at c.loop-i.invariant.1)
 
 pub overflow_add-i : goal.overflow_add-i
 overflow_add-i c = omega arith
-
-pub overflow_add-i-in-loop-i : goal.overflow_add-i-in-loop-i
-overflow_add-i-in-loop-i c = omega arith
-
-pub loop-i-smaller : goal.loop-i-smaller
-loop-i-smaller c = omega arith

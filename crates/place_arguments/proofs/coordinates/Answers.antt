@@ -1,6 +1,7 @@
 use Rattle.argument_values.specs.Arguments.{argument_body, argument_recs, HeldArgument}
+use Rattle.cursor.proofs.Laws.{got_is}
 use Rattle.place_arguments.proofs.coordinates.Goals as goal
 
 pub returns : goal.returns
 unfolding argument_body argument_recs HeldArgument
-returns c = record { reads = c.read_latlon-x.ensures.reads; held = tt }
+returns c = rw (got_is c.map.ensures.value c.map.ensures.place) (record { reads = c.read_latlon.ensures.reads; held = tt })

@@ -14,7 +14,7 @@ pub returns-then-k-kinds : goal.returns-then-k-kinds
 returns-then-k-kinds c = record { reads = λ t u. takes_row t u _ _ none_left c.bits-kind.result (rw (c.requires.0, index-width u _ _) at c.bits-kind.ensures) c.ranged-number.result c.if-k-kinds.true (rw c.range_at-range.ensures.1 at c.ranged-number.ensures) }
 
 pub returns : goal.returns
-returns c = record { reads = λ t u. takes_no_row t u _ _ c.bits-kind.result (rw (c.requires.0, index-width u _ _) at c.bits-kind.ensures) c.if-k-kinds.false c.stop-end.ensures }
+returns c = record { reads = λ t u. takes_no_row t u _ _ c.bits-kind.result (rw (c.requires.0, index-width u _ _) at c.bits-kind.ensures) c.if-k-kinds.false c.stop.ensures }
 
 pub ranged-number-requires : goal.ranged-number-requires
 ranged-number-requires c = c.range_at-range.ensures.0
