@@ -10,9 +10,7 @@ pub fn spaced_eight(v: u64) -> u64
 {
     let mut r: u64 = 0;
     let mut rest = v;
-    let mut k: u64 = 8;
-    while k > 0 {
-        k -= 1;
+    for k in (0..8u64).rev() {
         let low = k * 8;
         r = r * 256 + spaced_octet(rest >> low);
         rest = rest % (1 << low);

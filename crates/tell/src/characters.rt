@@ -28,14 +28,10 @@ pub fn tell_run(words: &mut [u64], n: usize, tag: u64, element: u64, s: &[u8], r
     requires { (n < 2 ^ 31) × (r.len < 512) × Spelt s.now r }
     ensures { Told ((r.len + 7) / 8) words.old words.new n result (pack tag element r.from (from s.now r 0)) }
 {
-    let len = r.len;
-    let place = r.from;
     let mut m = n;
-    let mut i: usize = 0;
-    while i < len {
+    for i in (0..r.len).step_by(8) {
         let v = told(s, r, i);
-        m = emit(words, m, tag, element, v, len as u64, place);
-        i += 8;
+        m = emit(words, m, tag, element, v, r.len as u64, r.from);
     }
     m
 }

@@ -21,14 +21,10 @@ pub fn tell_text(words: &mut [u64], n: usize, tag: u64, element: u64, s: &[u8], 
     requires { (n < 2 ^ 31) × (x.len < 512) × InFrame 7 s.now x }
     ensures { Told 64 words.old words.new n result (text_recs tag element s.now x) }
 {
-    let len = x.len;
-    let place = x.from;
     let mut m = n;
-    let mut i: usize = 0;
-    while i < len {
+    for i in (0..x.len).step_by(8) {
         let v = sevens(s, x, i);
-        m = emit(words, m, tag, element, v, len as u64, place);
-        i += 8;
+        m = emit(words, m, tag, element, v, x.len as u64, x.from);
     }
     m
 }
@@ -83,14 +79,10 @@ fn none_above_ten(s: &[u8], x: Text) -> bool
     requires { (x.len ≤ 12) × InFrame 4 s.now x }
     ensures { result ≡ none_above 10 (units (bit_of s.now) 4 x.at x.len) }
 {
-    let at = x.at;
-    let len = x.len;
-    let mut i: usize = 0;
-    while i < len {
-        if wide(s, at + i * 4, 4) > 10 {
+    for i in 0..x.len {
+        if wide(s, x.at + i * 4, 4) > 10 {
             return false;
         }
-        i += 1;
     }
     true
 }

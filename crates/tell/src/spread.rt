@@ -8,9 +8,7 @@ pub fn spread(v: u64, width: usize) -> u64
     ensures { result ≡ widened width 8 8 v }
 {
     let mut r: u64 = 0;
-    let mut k: usize = 8;
-    while k > 0 {
-        k -= 1;
+    for k in (0..8).rev() {
         r = r * 256 + (v >> (k * width)) % (1 << width);
     }
     r

@@ -9,32 +9,14 @@ turned c = turn _ _ c.loop-k-test.true c.loop-k.invariant c.spaced_octet.ensures
 pub loop-k-init : goal.loop-k-init
 loop-k-init c = left-all _ (omega arith)
 
-pub overflow_sub-k : goal.overflow_sub-k
-overflow_sub-k c = omega arith
-
-pub overflow_mul-low : goal.overflow_mul-low
-overflow_mul-low c = omega arith
-
 pub overflow_mul-r : goal.overflow_mul-r
 overflow_mul-r c = omega (arith, left-room _ c.loop-k-test.true c.loop-k.invariant)
 
-pub overflow_shr-rest : goal.overflow_shr-rest
-overflow_shr-rest c = omega arith
-
 pub overflow_add-r : goal.overflow_add-r
 overflow_add-r c = omega (arith, (turned c).fits)
-
-pub overflow_shl-rest : goal.overflow_shl-rest
-overflow_shl-rest c = omega arith
-
-pub nonzero_rem-rest : goal.nonzero_rem-rest
-nonzero_rem-rest c = one-shl_pos _ (omega (arith, c.loop-k.invariant.few))
 
 pub loop-k-preserved : goal.loop-k-preserved
 loop-k-preserved c = (turned c).next
 
 pub returns : goal.returns
 returns c = left-none _ c.loop-k-test.false c.loop-k.invariant
-
-pub loop-k-smaller : goal.loop-k-smaller
-loop-k-smaller c = omega arith

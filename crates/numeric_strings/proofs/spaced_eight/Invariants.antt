@@ -5,5 +5,3 @@ use Rattle.numeric_strings.proofs.spaced_eight.Given as goal
 abbrev pub invariant-loop-k : goal.invariant-loop-k
 invariant-loop-k l = Left l.v l.r l.rest l.k
 
-abbrev pub decreases-loop-k : goal.decreases-loop-k
-decreases-loop-k l = l.k

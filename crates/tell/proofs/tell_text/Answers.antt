@@ -13,8 +13,8 @@ sevens-v-requires c = (c.loop-i-test.true, c.requires.2)
 pub emit-m-requires : goal.emit-m-requires
 emit-m-requires c = omega (arith, c.loop-i.invariant.1.count, c.requires)
 
-pub overflow_add-i : goal.overflow_add-i
-overflow_add-i c = omega (arith, c.requires.1)
+pub overflow_step-i : goal.overflow_step-i
+overflow_step-i c = omega (arith, c.requires.1)
 
 pub loop-i-preserved : goal.loop-i-preserved
 loop-i-preserved c =
@@ -30,3 +30,7 @@ returns c =
 
 pub loop-i-smaller : goal.loop-i-smaller
 loop-i-smaller c = omega arith
+
+pub returns-2 : goal.returns-2
+returns-2 c =
+    told_text c.args.tag c.args.element c.args.s.now c.args.x c.requires.1 (upto_all (omega arith) (upto_more c.loop-i-test.true c.loop-i.invariant.1 (rw sevens-from c.sevens-v.ensures) c.emit-m.ensures))

@@ -12,8 +12,8 @@ told-v-requires c = (c.loop-i-test.true, c.requires.2)
 pub emit-m-requires : goal.emit-m-requires
 emit-m-requires c = omega (arith, c.loop-i.invariant.1.count, c.requires)
 
-pub overflow_add-i : goal.overflow_add-i
-overflow_add-i c = omega (arith, c.requires.1)
+pub overflow_step-i : goal.overflow_step-i
+overflow_step-i c = omega (arith, c.requires.1)
 
 pub loop-i-preserved : goal.loop-i-preserved
 loop-i-preserved c =
@@ -28,3 +28,7 @@ returns c = upto_all c.loop-i-test.false c.loop-i.invariant.1
 
 pub loop-i-smaller : goal.loop-i-smaller
 loop-i-smaller c = omega arith
+
+pub returns-2 : goal.returns-2
+returns-2 c =
+    upto_all (omega arith) (upto_more c.loop-i-test.true c.loop-i.invariant.1 c.told-v.ensures c.emit-m.ensures)

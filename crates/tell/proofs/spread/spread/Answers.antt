@@ -57,6 +57,3 @@ pub returns : goal.returns
 returns c =
     let e : c.loop-k.k ≡ 0 = omega (arith, c.loop-k-test.false) in
     rw (e, zero-mul c.args.width, div-one c.args.v) at c.loop-k.invariant.sum
-
-pub loop-k-smaller : goal.loop-k-smaller
-loop-k-smaller c = omega arith

@@ -12,5 +12,3 @@ pub record Above (v w k r : ℕ) : Type 0 where
 abbrev pub invariant-loop-k : goal.invariant-loop-k
 invariant-loop-k l = Above l.v l.width l.k l.r
 
-abbrev pub decreases-loop-k : goal.decreases-loop-k
-decreases-loop-k l = l.k
