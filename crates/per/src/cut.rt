@@ -1,22 +1,13 @@
 // Bits cut out of a number, and the octets to make that number of.
 ghost use Rattle.std.specs.Prelude.{◌≡◌, ◌+◌, ◌-◌, ◌/◌, ◌%◌, ◌^◌, ◌<◌, ◌≤◌, min};
 
-pub fn least(a: usize, b: usize) -> usize
-    ensures { result ≡ min a b }
-{
-    if a < b {
-        return a;
-    }
-    b
-}
-
 // The octet from which on so many are taken for the bits from `at` on: the bits' own first, or the
 // first of the last ones.
 pub fn first(len: usize, at: usize, count: usize) -> usize
     requires { count ≤ len }
     ensures { result ≡ min (at / 8) (len - count) }
 {
-    least(at / 8, len - count)
+    (at / 8).min(len - count)
 }
 
 // The n bits behind the first `skip` of v, which has `size`. Where it has fewer the shift is taken

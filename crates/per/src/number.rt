@@ -3,7 +3,7 @@
 ghost use Rattle.std.specs.Prelude.{◌≡◌, ◌+◌, ◌*◌, ◌^◌, ◌<◌, ◌≤◌, length};
 ghost use Rattle.x691.specs.Bits.{bit_of, uint};
 
-use super::cut::{cut, first, least};
+use super::cut::{cut, first};
 use super::octets::four;
 
 // The number that the n bits from `at` on spell, if they are there. If not it is any below 2 ^ n.
@@ -56,7 +56,7 @@ pub fn wide(s: &[u8], at: usize, n: usize) -> u64
         if s.len() <= i {
             return 0;
         }
-        let take = least(8 - skip, left);
+        let take = (8 - skip).min(left);
         v = (v << take) + cut(s[i] as u64, 8, skip, take);
         left = left - take;
         skip = 0;

@@ -6,15 +6,6 @@ ghost use Rattle.records.specs.Moves.{raised_places};
 use super::WORDS;
 use super::space::words_for;
 
-fn least(a: usize, b: usize) -> usize
-    ensures { result ≡ min a b }
-{
-    if a < b {
-        return a;
-    }
-    b
-}
-
 // The place of the record whose words begin at the word `at`.
 fn move_place(words: &mut [u64], at: usize, by: u64)
     requires { at + 4 < length words.old }
@@ -33,15 +24,13 @@ pub fn move_places(words: &mut [u64], n: usize, m: usize, by: usize)
     }
     let more = by as u64;
     // behind the end of the words there is nothing to move
-    let stop = least(words_for(m), words.len());
+    let stop = words_for(m).min(words.len());
     let mut at = words_for(n);
     // eight with one test, of the eighth's place: a compiler writes out turns whose number is fixed
     while at + 39 < stop {
-        let mut k: usize = 0;
-        while k < 8 {
+        for _ in 0..8usize {
             move_place(words, at, more);
             at += WORDS;
-            k += 1;
         }
     }
     while at + 4 < stop {

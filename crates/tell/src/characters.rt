@@ -1,5 +1,5 @@
 // Characters by where they stand, whatever their alphabet.
-ghost use Rattle.std.specs.Prelude.{◌≡◌, min, ◌+◌, ◌/◌, ◌<◌, ◌^◌};
+ghost use Rattle.std.specs.Prelude.{◌≡◌, ◌+◌, ◌/◌, ◌<◌, ◌^◌};
 ghost use Rattle.atn.specs.Reading.{octets, pack};
 ghost use Rattle.records.specs.Told.{Told};
 ghost use Rattle.tell.specs.Characters.{Spelt, counted, from};
@@ -54,18 +54,9 @@ fn eight(s: &[u8], r: Run, i: usize) -> u64
     ensures { result ≡ octets 8 (counted s.now r i) }
 {
     let width = r.width;
-    let k = at_most_eight(r.len - i);
+    let k = (r.len - i).min(8);
     let v = spread(wide(s, r.at + i * width, k * width), width);
     // the codes count from `first`, and the octets of the characters that are missing come last
     let missing = 64 - 8 * k;
     (v + r.first * (ONES >> missing)) << missing
-}
-
-pub fn at_most_eight(n: usize) -> usize
-    ensures { result ≡ min 8 n }
-{
-    if n < 8 {
-        return n;
-    }
-    8
 }

@@ -8,7 +8,7 @@ ghost use Rattle.character_strings.specs.Texts.{text_recs, channel_recs, InFrame
 ghost use Rattle.records.specs.Told.{Told};
 
 use character_strings::Text;
-use characters::{Run, at_most_eight, tell_run};
+use characters::{Run, tell_run};
 use per::number::wide;
 use records::emit;
 use spread::top_sevens;
@@ -34,7 +34,7 @@ fn sevens(s: &[u8], x: Text, i: usize) -> u64
     requires { (i < x.len) × InFrame 7 s.now x }
     ensures { result ≡ octets 8 (units (bit_of s.now) 7 (x.at + i * 7) (x.len - i)) }
 {
-    let k = at_most_eight(x.len - i);
+    let k = (x.len - i).min(8);
     top_sevens(wide(s, x.at + i * 7, k * 7), k)
 }
 

@@ -57,32 +57,32 @@ overflow_cast-s-in-loop-left c = let l = c.loop-left in omega (arith, c.type_inv
 turn : (c : goal.After-cut-in-loop-left) →
     let l = c.loop-left in
     let a = c.args in
-    let take = c.least-take.result in
+    let take = c.min-take.result in
     l.v * 2 ^ take % 2 ^ 64 + c.cut-in-loop-left.result ≡ uint (bit_of a.s.now) a.at (a.n - (l.left - take))
 turn c =
     let l = c.loop-left in
     let a = c.args in
-    let take = c.least-take.result in
+    let take = c.min-take.result in
     let s = a.s.now in
     let o = uint-octet s l.i (omega (arith, c.type_inv.s l.i)) in
-    let k : l.skip + take ≤ 8 = omega (arith, l.invariant.within, c.least-take.ensures) in
-    let h : take ≤ l.left = omega (arith, c.least-take.ensures) in
+    let k : l.skip + take ≤ 8 = omega (arith, l.invariant.within, c.min-take.ensures) in
+    let h : take ≤ l.left = omega (arith, c.min-take.ensures) in
     more l.invariant c.requires c.loop-left-test.true h (uint-cut s (8 * l.i + l.skip) take l.i l.skip 1 refl k (sym o) c.cut-in-loop-left.ensures.0)
 
 pub overflow_add-v : goal.overflow_add-v
 overflow_add-v c =
     let a = c.args in
-    let m = a.n - (c.loop-left.left - c.least-take.result) in
+    let m = a.n - (c.loop-left.left - c.min-take.result) in
     omega (arith, turn c, uint-below-wide 64 a.s.now a.at m (omega arith))
 
 pub loop-left-smaller : goal.loop-left-smaller
 loop-left-smaller c =
-    omega (arith, c.loop-left.invariant.within, c.loop-left-test.true, c.least-take.ensures)
+    omega (arith, c.loop-left.invariant.within, c.loop-left-test.true, c.min-take.ensures)
 
 pub loop-left-preserved : goal.loop-left-preserved
 loop-left-preserved c =
     let t = c.loop-left.invariant in
-    let e = c.least-take.ensures in
+    let e = c.min-take.ensures in
     record { place = λ h. omega (arith, t.place c.loop-left-test.true, t.within, e); some = omega (arith, t.some); within = omega arith; value = turn c }
 
 pub returns : goal.returns

@@ -54,31 +54,31 @@ pub overflow_add-at : goal.overflow_add-at
 overflow_add-at c =
     omega (arith, c.loop-at.invariant.0, fives c.args.m, c.requires)
 
-pub loop-k-init : goal.loop-k-init
-loop-k-init c = (omega arith, omega arith, none)
+pub loop-init : goal.loop-init
+loop-init c = (omega arith, omega arith, none)
 
 pub loop-at-smaller : goal.loop-at-smaller
-loop-at-smaller c = omega (arith, c.loop-k.invariant.1, c.loop-k.invariant.0, c.loop-k-test.false, c.loop-at-test.true)
+loop-at-smaller c = omega (arith, c.loop.invariant.1, c.loop.invariant.0, c.loop-test.false, c.loop-at-test.true)
 
 pub loop-at-preserved : goal.loop-at-preserved
 loop-at-preserved c =
-    let eight = c.loop-k.invariant in
-    (omega (arith, eight.0, eight.1, c.loop-at-test.true, c.least-stop.ensures, c.words_for.ensures), then c.loop-at.invariant.1 eight.2)
+    let eight = c.loop.invariant in
+    (omega (arith, eight.0, eight.1, c.loop-at-test.true, c.min-stop.ensures, c.words_for.ensures), then c.loop-at.invariant.1 eight.2)
 
 pub move_place-requires : goal.move_place-requires
 move_place-requires c =
-    let some = c.loop-k.invariant in
-    omega (arith, c.loop-k-test.true, some.1, room some.2, c.loop-at-test.true, room c.loop-at.invariant.1, c.least-stop.ensures)
+    let some = c.loop.invariant in
+    omega (arith, c.loop-test.true, some.1, room some.2, c.loop-at-test.true, room c.loop-at.invariant.1, c.min-stop.ensures)
 
-pub overflow_add-at-in-loop-k : goal.overflow_add-at-in-loop-k
-overflow_add-at-in-loop-k c =
-    let some = c.loop-k.invariant in
+pub overflow_add-at-in-loop : goal.overflow_add-at-in-loop
+overflow_add-at-in-loop c =
+    let some = c.loop.invariant in
     omega (arith, some.0, some.1, c.loop-at.invariant.0, fives c.args.m, c.requires)
 
-pub loop-k-preserved : goal.loop-k-preserved
-loop-k-preserved c =
-    let some = c.loop-k.invariant in
-    (omega (arith, c.loop-k-test.true), omega (arith, some.1), one_more some.2 c.move_place.ensures)
+pub loop-preserved : goal.loop-preserved
+loop-preserved c =
+    let some = c.loop.invariant in
+    (omega (arith, c.loop-test.true), omega (arith, some.1), one_more some.2 c.move_place.ensures)
 
 pub loop-at-2-init : goal.loop-at-2-init
 loop-at-2-init c = (c.loop-at.invariant.0, none)
@@ -89,7 +89,7 @@ overflow_add-at-in-loop-at-2 c =
 
 pub move_place-requires-in-loop-at-2 : goal.move_place-requires-in-loop-at-2
 move_place-requires-in-loop-at-2 c =
-    omega (arith, c.loop-at-2-test.true, room c.loop-at-2.invariant.1, room c.loop-at.invariant.1, c.least-stop.ensures)
+    omega (arith, c.loop-at-2-test.true, room c.loop-at-2.invariant.1, room c.loop-at.invariant.1, c.min-stop.ensures)
 
 pub overflow_add-at-in-loop-at-2-2 : goal.overflow_add-at-in-loop-at-2-2
 overflow_add-at-in-loop-at-2-2 c =
@@ -100,7 +100,7 @@ loop-at-2-smaller c = omega (arith, c.loop-at-2-test.true)
 
 pub loop-at-2-preserved : goal.loop-at-2-preserved
 loop-at-2-preserved c =
-    (omega (arith, c.loop-at-2-test.true, c.least-stop.ensures, c.words_for.ensures), one_more c.loop-at-2.invariant.1 c.move_place-in-loop-at-2.ensures)
+    (omega (arith, c.loop-at-2-test.true, c.min-stop.ensures, c.words_for.ensures), one_more c.loop-at-2.invariant.1 c.move_place-in-loop-at-2.ensures)
 
 -- the two loops, one after another
 both : (c : goal.After-loop-at-2) → Moved c.args.by c.args.words.now c.words_for-at.result c.loop-at-2.words c.loop-at-2.at
@@ -112,7 +112,7 @@ shape_of-words c = room (both c)
 pub returns : goal.returns
 returns c =
     let a = c.args in
-    all (both c) a.n a.m c.words_for-at.ensures c.loop-at-2.invariant.0 (omega (arith, c.loop-at-2-test.false, c.least-stop.ensures, c.words_for.ensures))
+    all (both c) a.n a.m c.words_for-at.ensures c.loop-at-2.invariant.0 (omega (arith, c.loop-at-2-test.false, c.min-stop.ensures, c.words_for.ensures))
 
 pub words_for-at-requires : goal.words_for-at-requires
 words_for-at-requires c = omega arith

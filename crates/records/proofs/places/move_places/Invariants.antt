@@ -10,11 +10,8 @@ pub record Moved (a : ℕ) (w₀ : List ℕ) (at₀ : ℕ) (w : List ℕ) (at : 
   pub on : at ≡ at₀ + space k
   pub words : w ≡ raised_places a k at₀ w₀
 
-abbrev pub invariant-loop-k : goal.invariant-loop-k
-invariant-loop-k l = (l.k ≤ 8) × (l.at ≡ l.initial.at + l.k * 5) × Moved l.by l.initial.words l.initial.at l.words l.at
-
-abbrev pub decreases-loop-k : goal.decreases-loop-k
-decreases-loop-k l = 8 - l.k
+abbrev pub invariant-loop : goal.invariant-loop
+invariant-loop l = (l.counter ≤ 8) × (l.at ≡ l.initial.at + l.counter * 5) × Moved l.by l.initial.words l.initial.at l.words l.at
 
 abbrev pub invariant-loop-at : goal.invariant-loop-at
 invariant-loop-at l = (l.at ≤ space l.m) × Moved l.by l.initial.words l.initial.at l.words l.at
