@@ -30,4 +30,3 @@ pub enum Argument {
     Coordinates(Pair),
     Departure(Departure),
 }
-

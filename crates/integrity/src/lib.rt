@@ -47,14 +47,6 @@ pub fn read_integrity(s: &[u8], words: &mut [u64], n: usize, c: Cursor) -> At
     if l.v == 0 {
         return At { n: n, c: end };
     }
-    let m = emit(
-        words,
-        n,
-        INTEGRITY_CHECK,
-        0,
-        at as u64,
-        l.v as u64,
-        c.at,
-    );
+    let m = emit(words, n, INTEGRITY_CHECK, 0, at as u64, l.v as u64, c.at);
     At { n: m, c: end }
 }

@@ -70,10 +70,7 @@ fn count(s: &[u8], c: Cursor, sum: usize) -> Got<usize>
     ensures { Sums s.now c sum result }
 {
     match one(s, c) {
-        Head::Last(n, d) => Got {
-            v: sum + n,
-            c: d,
-        },
+        Head::Last(n, d) => Got { v: sum + n, c: d },
         Head::Part(n, d) => count(s, d, sum + n),
     }
 }

@@ -4,4 +4,3 @@ use Rattle.numeric_strings.proofs.spaced_eight.Given as goal
 
 abbrev pub invariant-loop-k : goal.invariant-loop-k
 invariant-loop-k l = Left l.v l.r l.rest l.k
-

@@ -5,4 +5,3 @@ use Rattle.tell.proofs.none_above_ten.Given as goal
 
 abbrev pub invariant-loop-i : goal.invariant-loop-i
 invariant-loop-i l = Test l.s l.x.at l.x.len 0 ≡ Test l.s l.x.at l.x.len l.i
-

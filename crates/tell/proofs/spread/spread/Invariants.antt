@@ -11,4 +11,3 @@ pub record Above (v w k r : ℕ) : Type 0 where
 
 abbrev pub invariant-loop-k : goal.invariant-loop-k
 invariant-loop-k l = Above l.v l.width l.k l.r
-
