@@ -48,7 +48,7 @@ only-given (range lo hi) = λ r n e f x. ap bits (x ∙ rw (e, f))
 only-given (field lo hi r) = λ k g e f x. reads_one _ (raw_bytes r) (raw_place (width (extent lo hi))) g.c g.v (raw_place (width (extent lo hi))) (omega arith) (rw (e, f) at ((x.number 0).took (0, 0)))
 only-given (count_of lo hi r) = λ k g e f x.
     reads_one _ (raw_bytes r) (raw_place (width (hi - lo))) g.c g.v 0 (omega arith) (rw (e, f) at (x.size (λ n u p. alone n u p) (told-alone (raw_bytes r) g.c g.v)))
-only-given (length_of s) = λ l x. reads_one _ s 0 l.c l.count 0 (omega arith) (x.then (λ n u p. alone n u p) (told-alone s l.c l.count))
+only-given (length_of s) = λ l x. reads_one _ s 0 l.c l.v 0 (omega arith) (x.then (λ n u p. alone n u p) (told-alone s l.c l.v))
 only-given (small_octets cs) = λ g x. reads_one _ (small_bytes cs) 7 g.c g.v _ (omega arith) ((takes_small 2 0 refl x).took (0, 0))
 only-given (frame e s) = λ r w x. ap (λ (o : Outcome). of_answer o.0) x.is
 only-given (told e t s) = λ r w x. ap (λ (o : Outcome). told_in t o.0 o.1) x.is
