@@ -19,13 +19,13 @@ use Rattle.record_lists.specs.Items.{Item}
 use Rattle.record_lists.specs.Clear.{firsts}
 use Rattle.record_lists.specs.Parse.{Got, no, got, opens, keep, feed, turn, several, parse}
 use Rattle.record_lists.proofs.Forth.{feed_inv, turn_inv}
-use Rattle.pens.specs.declared.Pen.{Pen}
+use Rattle.pens.specs.Stand.{Stand}
 use Rattle.pens.specs.Rest.{items}
 use Rattle.pens.specs.Writes.{limit, Took, Wrote, Skips, Part, Repeats}
 use Rattle.pens.proofs.PenLaws.{then_writes, writes_still}
 use Rattle.pens.proofs.MemberLaws.{set_bits_swap}
 
-module _ (b : ℕ → ℕ) (W : List ℕ) (m : ℕ) (f : Fmt) (e i : ℕ) (p q r : Pen) (X Y Z : List ℕ) where
+module _ (b : ℕ → ℕ) (W : List ℕ) (m : ℕ) (f : Fmt) (e i : ℕ) (p q r : Stand) (X Y Z : List ℕ) where
   abbrev T : ℕ → List Item
   T j = items b W m j
 
@@ -77,7 +77,7 @@ module _ (b : ℕ → ℕ) (W : List ℕ) (m : ℕ) (f : Fmt) (e i : ℕ) (p q r
           let o = d.counts t.on t.fits u.0 S (ap (λ (R : List Item). those (suc i) n R) (sym t.left) ∙ u.1) in
           rw u.2 (omega (arith, o))
 
-module _ (b : ℕ → ℕ) (W : List ℕ) (m : ℕ) (x : Ctx) (lo hi : ℕ) (f : Fmt) (p q r : Pen) (X Y Z : List ℕ) (count : ℕ) (skipped : Skips p (width (hi - lo)) q) (rep : Repeats f x.0 1 hi b W m q X r Y count) where
+module _ (b : ℕ → ℕ) (W : List ℕ) (m : ℕ) (x : Ctx) (lo hi : ℕ) (f : Fmt) (p q r : Stand) (X Y Z : List ℕ) (count : ℕ) (skipped : Skips p (width (hi - lo)) q) (rep : Repeats f x.0 1 hi b W m q X r Y count) where
   abbrev T' : ℕ → List Item
   T' j = items b W m j
 
@@ -120,7 +120,7 @@ module _ (b : ℕ → ℕ) (W : List ℕ) (m : ℕ) (x : Ctx) (lo hi : ℕ) (f :
           })
 
   -- too few
-  pub many_few : (o : Pen) → count < lo → o.off ≡ true → Part (many lo hi f) x b W m p X o Z
+  pub many_few : (o : Stand) → count < lo → o.off ≡ true → Part (many lo hi f) x b W m p X o Z
   unfolding parse keep
   many_few o h k = record { still = λ _. k; goes = λ z l. go z l (all (T' p.next)) refl }
     where
@@ -128,7 +128,7 @@ module _ (b : ℕ → ℕ) (W : List ℕ) (m : ℕ) (x : Ctx) (lo hi : ℕ) (f :
       go z l no e = k
       go z l (got vs S) e = rw (lt-leb lo (length vs) (omega (arith, numbered z l vs S e, h))) k
 
-  pub many_refused : (o : Pen) → r.off ≡ true → o.off ≡ true → Part (many lo hi f) x b W m p X o Z
+  pub many_refused : (o : Stand) → r.off ≡ true → o.off ≡ true → Part (many lo hi f) x b W m p X o Z
   unfolding parse keep
   many_refused o h k = record { still = λ _. k; goes = λ z l. go (all (T' p.next)) (there z l) }
     where

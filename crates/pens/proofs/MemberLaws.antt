@@ -16,7 +16,7 @@ use Rattle.bit_writer.proofs.PutLaws.{set_bits-join, set_bits_under}
 use Rattle.record_lists.specs.Items.{Item, plain}
 use Rattle.record_lists.specs.Clear.{firsts}
 use Rattle.record_lists.specs.Parse.{Got, no, got, opens, begins, feed, turn, perhaps, parse, parse_fields}
-use Rattle.pens.specs.declared.Pen.{Pen}
+use Rattle.pens.specs.Stand.{Stand}
 use Rattle.pens.specs.Rest.{items}
 use Rattle.pens.specs.Writes.{limit, Took, Wrote, Writes, Skips, Part, TookMembers, WroteMembers, WritesMembers, Members}
 
@@ -28,7 +28,7 @@ set_bits_swap s a c (x ∷ xs) ys h = ap (λ (l : List ℕ). set_bits l (suc a) 
 
 ---------------------------------------------------------------- members one after another, whatever their values
 
-module _ {A B C : Type 0} (enc : A → List ℕ) (pre enc' : B → List ℕ) (pre'' enc'' : C → List ℕ) (g : List Item → Got A) (h : List Item → Got B) (c : A → B → C) (T : ℕ → List Item) (m fl fl' : ℕ) (p q r : Pen) (U₀ X Y Z : List ℕ) where
+module _ {A B C : Type 0} (enc : A → List ℕ) (pre enc' : B → List ℕ) (pre'' enc'' : C → List ℕ) (g : List Item → Got A) (h : List Item → Got B) (c : A → B → C) (T : ℕ → List Item) (m fl fl' : ℕ) (p q r : Stand) (U₀ X Y Z : List ℕ) where
   -- bits F put from fl on, with no member, before all
   module _ (F : List ℕ) (flagged : fl + length F ≤ limit → X ≡ set_bits U₀ fl F) (moved : fl' ≡ fl + length F) (pres : (a : A) (b : B) → pre'' (c a b) ≡ F ++ pre b) (joins : (a : A) (b : B) → enc'' (c a b) ≡ enc a ++ enc' b) where
     took_both : (a : A) (b : B) (S U : List Item) → Took enc T m p X q Y a S → TookMembers fl' pre enc' T m q Y r Z b U → TookMembers fl pre'' enc'' T m p U₀ r Z (c a b) U
@@ -64,7 +64,7 @@ module _ {A B C : Type 0} (enc : A → List ℕ) (pre enc' : B → List ℕ) (pr
         go (got a S) w = more a S w (h S) (rw w.left (y.goes w.on w.fits))
 
 -- a member that is absent: bits F from fl on, and so many records passed
-module _ {B C : Type 0} (pre enc' : B → List ℕ) (pre'' enc'' : C → List ℕ) (h : List Item → Got B) (c : B → C) (T : ℕ → List Item) (m fl fl' k : ℕ) (p q r : Pen) (U₀ X Z F : List ℕ) where
+module _ {B C : Type 0} (pre enc' : B → List ℕ) (pre'' enc'' : C → List ℕ) (h : List Item → Got B) (c : B → C) (T : ℕ → List Item) (m fl fl' k : ℕ) (p q r : Stand) (U₀ X Z F : List ℕ) where
   skip-member : (fl + length F ≤ limit → X ≡ set_bits U₀ fl F) → fl' ≡ fl + length F → ((b : B) → pre'' (c b) ≡ F ++ pre b) → ((b : B) → enc'' (c b) ≡ enc' b)
       → q.off ≡ p.off → q.at ≡ p.at → (p.off ≡ false → p.next ≤ m → (q.next ≤ m) × (drop k (T p.next) ≡ T q.next))
       → WritesMembers fl' pre enc' h T m q X r Z → WritesMembers fl pre'' enc'' (λ R. turn c (h (drop k R))) T m p U₀ r Z
@@ -87,7 +87,7 @@ module _ {B C : Type 0} (pre enc' : B → List ℕ) (pre'' enc'' : C → List �
 
 ---------------------------------------------------------------- members by their form
 
-module _ (b : ℕ → ℕ) (W : List ℕ) (m : ℕ) (x : Ctx) (fl : ℕ) (p q r : Pen) (U₀ X Y Z : List ℕ) where
+module _ (b : ℕ → ℕ) (W : List ℕ) (m : ℕ) (x : Ctx) (fl : ℕ) (p q r : Stand) (U₀ X Y Z : List ℕ) where
   abbrev T : ℕ → List Item
   T i = items b W m i
 
@@ -151,7 +151,7 @@ module _ (b : ℕ → ℕ) (W : List ℕ) (m : ℕ) (x : Ctx) (fl : ℕ) (p q r 
   members_unread t fs s c = absent-member (λ v. absurd v) fs s c
 
 -- a sequence: its presence bits are left out, its members put behind them
-module _ (b : ℕ → ℕ) (W : List ℕ) (m : ℕ) (x : Ctx) (p q r : Pen) (X Z : List ℕ) (fs : Flds) (fl : ℕ) where
+module _ (b : ℕ → ℕ) (W : List ℕ) (m : ℕ) (x : Ctx) (p q r : Stand) (X Z : List ℕ) (fs : Flds) (fl : ℕ) where
   -- the presence bits stand at the pen's place, where it counts
   sequence : (p.at ≤ limit → fl ≡ p.at) → Skips p (flags fs) q → Members fl fs x b W m q X r Z
       → Writes (λ vs. preamble (members_of fs) vs ++ encode_members (members_of fs) vs) (λ R. parse_fields fs x R) (λ i. items b W m i) m p X r Z

@@ -19,13 +19,13 @@ use Rattle.record_lists.specs.Parse.{Got, no, got, peel, feed, keep, parse, pars
 use Rattle.record_lists.proofs.Forth.{forth, forth_pick}
 use Rattle.record_lists.specs.Most.{most}
 use Rattle.record_lists.proofs.Longest.{longest}
-use Rattle.pens.specs.declared.Pen.{Pen}
+use Rattle.pens.specs.Stand.{Stand}
 use Rattle.pens.specs.Rest.{items}
 use Rattle.pens.specs.Writes.{limit, Took, Wrote, Writes, Inks, Part}
 
 ---------------------------------------------------------------- a part behind another, which it may depend on
 
-module _ {A C : Type 0} (enc : A → List ℕ) (enc' enc'' : C → List ℕ) (g : List Item → Got A) (h : A → List Item → Got C) (T : ℕ → List Item) (m : ℕ) (p q r : Pen) (X Y Z : List ℕ) where
+module _ {A C : Type 0} (enc : A → List ℕ) (enc' enc'' : C → List ℕ) (g : List Item → Got A) (h : A → List Item → Got C) (T : ℕ → List Item) (m : ℕ) (p q r : Stand) (X Y Z : List ℕ) where
   abbrev After : Type 0
   After = p.off ≡ false → p.next ≤ m → (a : A) → g (T p.next) ≡ got a (T q.next) → q.off ≡ false → q.next ≤ m → Wrote enc' T m q Y r Z (h a (T q.next))
 
@@ -61,7 +61,7 @@ module _ {A C : Type 0} (enc : A → List ℕ) (enc' enc'' : C → List ℕ) (g 
 
 ---------------------------------------------------------------- bits before a part
 
-module _ {A : Type 0} (enc enc' : A → List ℕ) (g : List Item → Got A) (T : ℕ → List Item) (m n v : ℕ) (p q r : Pen) (X Y Z : List ℕ) where
+module _ {A : Type 0} (enc enc' : A → List ℕ) (g : List Item → Got A) (T : ℕ → List Item) (m n v : ℕ) (p q r : Stand) (X Y Z : List ℕ) where
   pub ink_writes : Inks p X n v q Y → Writes enc g T m q Y r Z → ((a : A) (S : List Item) → g (T p.next) ≡ got a S → enc' a ≡ bits_of n v ++ enc a) → Writes enc' g T m p X r Z
   ink_writes x y j = record { still = λ z. y.still (x.off_stays ∙ z); goes = λ z l. go (g (T p.next)) refl (rw (← x.next_stays) (y.goes (x.off_stays ∙ z) (omega (arith, x.next_stays, l)))) }
     where
@@ -84,7 +84,7 @@ module _ {A : Type 0} (enc enc' : A → List ℕ) (g : List Item → Got A) (T :
 
 ---------------------------------------------------------------- forms
 
-module _ (b : ℕ → ℕ) (W : List ℕ) (m : ℕ) (x : Ctx) (p q r : Pen) (X Y Z : List ℕ) where
+module _ (b : ℕ → ℕ) (W : List ℕ) (m : ℕ) (x : Ctx) (p q r : Stand) (X Y Z : List ℕ) where
   abbrev T : ℕ → List Item
   T i = items b W m i
 
@@ -133,7 +133,7 @@ long-length n l h =
     let t : n % 16384 ≡ n = omega arith in
     rw (le-ltb n 128 l, q, r, s, t)
 
-module _ (b : ℕ → ℕ) (W : List ℕ) (m : ℕ) (x : Ctx) (f : Fmt) (p o d : Pen) (D E : List ℕ) (starts : o.next ≡ p.next) (same : o.off ≡ p.off) (first : o.at ≡ 0) (dry : Part f x b W m o D d E) (size : most f ≤ limit) where
+module _ (b : ℕ → ℕ) (W : List ℕ) (m : ℕ) (x : Ctx) (f : Fmt) (p o d : Stand) (D E : List ℕ) (starts : o.next ≡ p.next) (same : o.off ≡ p.off) (first : o.at ≡ 0) (dry : Part f x b W m o D d E) (size : most f ≤ limit) where
   abbrev T' : ℕ → List Item
   T' i = items b W m i
 
@@ -159,11 +159,11 @@ module _ (b : ℕ → ℕ) (W : List ℕ) (m : ℕ) (x : Ctx) (f : Fmt) (p o d :
   unfolding keep
   keep_no k h = rw h
 
-  pub inner_refused : (X Z : List ℕ) (r : Pen) → (p.off ≡ false → d.off ≡ true) → r.off ≡ true → Part (inner f) x b W m p X r Z
+  pub inner_refused : (X Z : List ℕ) (r : Stand) → (p.off ≡ false → d.off ≡ true) → r.off ≡ true → Part (inner f) x b W m p X r Z
   unfolding parse
   inner_refused X Z r h k = record { still = λ _. k; goes = λ z l. rw (keep_no (parse f x (T' p.next)) (refused-run z l (h z))) k }
 
-  pub inner_long : (X Z : List ℕ) (r : Pen) → 16384 ≤ d.at → r.off ≡ true → Part (inner f) x b W m p X r Z
+  pub inner_long : (X Z : List ℕ) (r : Stand) → 16384 ≤ d.at → r.off ≡ true → Part (inner f) x b W m p X r Z
   unfolding parse keep
   inner_long X Z r h k = record { still = λ _. k; goes = λ z l. go z l (parse f x (T' p.next)) refl }
     where
@@ -171,7 +171,7 @@ module _ (b : ℕ → ℕ) (W : List ℕ) (m : ℕ) (x : Ctx) (f : Fmt) (p o d :
       go z l no e = k
       go z l (got v S) e = rw (le-ltb (length (encode (type_of f) v)) 16384 (omega (arith, measured z l e, h))) k
 
-  pub inner_goes : (n u : ℕ) (q r : Pen) (X Y Z : List ℕ) → d.at < 16384 → length_bits d.at ≡ bits_of n u → Inks p X n u q Y → Part f x b W m q Y r Z → Part (inner f) x b W m p X r Z
+  pub inner_goes : (n u : ℕ) (q r : Stand) (X Y Z : List ℕ) → d.at < 16384 → length_bits d.at ≡ bits_of n u → Inks p X n u q Y → Part f x b W m q Y r Z → Part (inner f) x b W m p X r Z
   unfolding parse encode keep
   inner_goes n u q r X Y Z h e a c = record { still = λ z. c.still (a.off_stays ∙ z); goes = λ z l. go z l (parse f x (T' p.next)) refl (rw (← a.next_stays) (c.goes (a.off_stays ∙ z) (omega (arith, a.next_stays, l)))) }
     where

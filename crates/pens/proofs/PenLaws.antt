@@ -10,11 +10,11 @@ use Rattle.bit_writer.specs.Put.{set_bits}
 use Rattle.bit_writer.proofs.PutLaws.{set_bits-join}
 use Rattle.record_lists.specs.Items.{Item}
 use Rattle.record_lists.specs.Parse.{Got, no, got, begins, peel, feed, turn}
-use Rattle.pens.specs.declared.Pen.{Pen}
+use Rattle.pens.specs.Stand.{Stand}
 use Rattle.pens.specs.Writes.{limit, Took, Wrote, Writes, Inks}
 use Rattle.pens.proofs.GotLaws.{writes_none}
 
-module _ {A : Type 0} (enc : A → List ℕ) (g : List Item → Got A) (T : ℕ → List Item) (m : ℕ) (p : Pen) (X : List ℕ) (q : Pen) (Y : List ℕ) where
+module _ {A : Type 0} (enc : A → List ℕ) (g : List Item → Got A) (T : ℕ → List Item) (m : ℕ) (p : Stand) (X : List ℕ) (q : Stand) (Y : List ℕ) where
   -- the list is refused already
   pub writes_still : p.off ≡ true → q.off ≡ true → Writes enc g T m p X q Y
   writes_still h k = record { still = λ _. k; goes = λ z l. absurd (false≢true (sym z ∙ h)) }
@@ -24,10 +24,10 @@ module _ {A : Type 0} (enc : A → List ℕ) (g : List Item → Got A) (T : ℕ 
 
 ---------------------------------------------------------------- bits
 
-pub ink_far : (p : Pen) (X : List ℕ) (n v : ℕ) (Y : List ℕ) → limit < p.at → Inks p X n v p Y
+pub ink_far : (p : Stand) (X : List ℕ) (n v : ℕ) (Y : List ℕ) → limit < p.at → Inks p X n v p Y
 ink_far p X n v Y h = record { next_stays = refl; off_stays = refl; puts = λ l. absurd (omega (arith, h, l)) }
 
-pub ink-near : (p : Pen) (X : List ℕ) (n v : ℕ) (q : Pen) (Y : List ℕ) → q.next ≡ p.next → q.off ≡ p.off → q.at ≡ p.at + n → Y ≡ set_bits X p.at (bits_of n v) → Inks p X n v q Y
+pub ink-near : (p : Stand) (X : List ℕ) (n v : ℕ) (q : Stand) (Y : List ℕ) → q.next ≡ p.next → q.off ≡ p.off → q.at ≡ p.at + n → Y ≡ set_bits X p.at (bits_of n v) → Inks p X n v q Y
 ink-near p X n v q Y a b c d = record { next_stays = a; off_stays = b; puts = λ _. (c, d) }
 
 ---------------------------------------------------------------- one record
@@ -42,7 +42,7 @@ unfolding begins peel
 peel_not x [] h = refl
 peel_not x (j ∷ R) h = rw h
 
-module _ (x : Item) (T : ℕ → List Item) (m : ℕ) (p q : Pen) (X : List ℕ) where
+module _ (x : Item) (T : ℕ → List Item) (m : ℕ) (p q : Stand) (X : List ℕ) where
   pub took_record : p.off ≡ false → begins x (T p.next) ≡ true → drop 1 (T p.next) ≡ T q.next → q.next ≤ m → q.at ≡ p.at → q.off ≡ false → Writes (λ _. []) (λ R. peel (x ∷ []) zero R) T m p X q X
   unfolding set_bits
   took_record h b t l a o =
@@ -55,7 +55,7 @@ module _ (x : Item) (T : ℕ → List Item) (m : ℕ) (p q : Pen) (X : List ℕ)
 ---------------------------------------------------------------- one part, and then another
 
 module _ {A B C : Type 0} (enc : A → List ℕ) (enc' : B → List ℕ) (enc'' : C → List ℕ) (g : List Item → Got A) (h : List Item → Got B) (c : A → B → C) (joins : (a : A) (b : B) → enc'' (c a b) ≡ enc a ++ enc' b) (T : ℕ → List Item) (m : ℕ) where
-  took_both : (p q r : Pen) (X Y Z : List ℕ) (a : A) (b : B) (S U : List Item) → Took enc T m p X q Y a S → Took enc' T m q Y r Z b U → Took enc'' T m p X r Z (c a b) U
+  took_both : (p q r : Stand) (X Y Z : List ℕ) (a : A) (b : B) (S U : List Item) → Took enc T m p X q Y a S → Took enc' T m q Y r Z b U → Took enc'' T m p X r Z (c a b) U
   took_both p q r X Y Z a b S U x y =
       record {
         on = y.on;
@@ -68,7 +68,7 @@ module _ {A B C : Type 0} (enc : A → List ℕ) (enc' : B → List ℕ) (enc'' 
             (omega (arith, e, i.0, j.0), j.1 ∙ rw (i.1, i.0, joins a b) (sym (set_bits-join X p.at (enc a) (enc' b))));
       }
 
-  pub then_writes : (p q r : Pen) (X Y Z : List ℕ) → Writes enc g T m p X q Y → Writes enc' h T m q Y r Z → Writes enc'' (λ R. feed (g R) λ a S. turn (λ b. c a b) (h S)) T m p X r Z
+  pub then_writes : (p q r : Stand) (X Y Z : List ℕ) → Writes enc g T m p X q Y → Writes enc' h T m q Y r Z → Writes enc'' (λ R. feed (g R) λ a S. turn (λ b. c a b) (h S)) T m p X r Z
   unfolding feed turn
   then_writes p q r X Y Z x y = record { still = λ z. y.still (x.still z); goes = λ z l. go (g (T p.next)) (x.goes z l) }
     where

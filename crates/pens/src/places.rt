@@ -2,6 +2,7 @@
 ghost use Rattle.std.specs.Prelude.{◌^◌, ◌≤◌, ◌<◌, ◌≡◌};
 ghost use Rattle.x691.specs.Bits.{bits_of};
 ghost use Rattle.bit_writer.specs.Put.{set_bits};
+ghost use Rattle.pens.specs.Stand.{before};
 ghost use Rattle.pens.specs.Writes.{limit, Skips};
 
 use super::{LIMIT, Pen};
@@ -10,7 +11,7 @@ use bit_writer::number::put;
 // So many bits are left out, to be put later.
 pub fn skip(p: Pen, n: usize) -> Pen
     requires { n < 2 ^ 32 }
-    ensures { Skips p n result }
+    ensures { Skips (before p) n (before result) }
 {
     let at = p.at;
     if LIMIT < at {
@@ -19,7 +20,6 @@ pub fn skip(p: Pen, n: usize) -> Pen
     Pen {
         next: p.next,
         at: at + n,
-        off: p.off,
     }
 }
 

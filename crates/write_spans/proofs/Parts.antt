@@ -14,7 +14,7 @@ use Rattle.x691.proofs.Widths.{width-holds}
 use Rattle.atn.specs.Format.{span, any_span}
 use Rattle.record_lists.specs.Kinds.{span_tag}
 use Rattle.record_lists.specs.Parse.{bits_at, good_size, parse}
-use Rattle.pens.specs.declared.Pen.{Pen}
+use Rattle.pens.specs.Stand.{Stand}
 use Rattle.pens.specs.Rest.{items}
 use Rattle.pens.specs.Writes.{Part, Inks}
 use Rattle.pens.proofs.PartLaws.{short-length, long-length}
@@ -42,7 +42,7 @@ size-good lo hi k l h = rw (le-leb lo k l, le-leb k hi h)
 ---------------------------------------------------------------- parts
 
 -- r units are counted in the span in front
-module _ (src W : List ℕ) (m t e w : ℕ) (unit : 1 ≤ w) (tagged : span_tag t ≡ true) (p : Pen) (X : List ℕ) (q : Pen) (Y : List ℕ) (r y : ℕ) (on : p.off ≡ false) (counted : r ≡ length (bits_at t (items (bit_of src) W m p.next)) / w) where
+module _ (src W : List ℕ) (m t e w : ℕ) (unit : 1 ≤ w) (tagged : span_tag t ≡ true) (p : Stand) (X : List ℕ) (q : Stand) (Y : List ℕ) (r y : ℕ) (on : p.off ≡ false) (counted : r ≡ length (bits_at t (items (bit_of src) W m p.next)) / w) where
   module _ (lo hi : ℕ) where
     abbrev SpanPart : Type 0
     SpanPart = Part (span t w lo hi) (e, y) (bit_of src) W m p X q Y

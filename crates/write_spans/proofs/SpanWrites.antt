@@ -14,7 +14,7 @@ use Rattle.bit_writer.proofs.Stretches.{stretch-length}
 use Rattle.record_lists.specs.Items.{Item, bits}
 use Rattle.record_lists.specs.Kinds.{span_tag}
 use Rattle.record_lists.specs.Parse.{bits_at, units_of, no, got}
-use Rattle.pens.specs.declared.Pen.{Pen}
+use Rattle.pens.specs.Stand.{Stand}
 use Rattle.pens.specs.Rest.{items}
 use Rattle.pens.specs.Writes.{limit, Writes, Inks}
 use Rattle.pens.proofs.GotLaws.{writes_none}
@@ -26,19 +26,19 @@ use Rattle.write_spans.proofs.RecordLaws.{span_there, units_there, whole-yes, wh
 
 ---------------------------------------------------------------- bits alone
 
-pub stretch_far : (b : ℕ → ℕ) (p : Pen) (X : List ℕ) (from n : ℕ) (Y : List ℕ) → limit < p.at → InksStretch b p X from n p Y
+pub stretch_far : (b : ℕ → ℕ) (p : Stand) (X : List ℕ) (from n : ℕ) (Y : List ℕ) → limit < p.at → InksStretch b p X from n p Y
 stretch_far b p X from n Y h = record { next_stays = refl; off_stays = refl; puts = λ l. absurd (omega (arith, h, l)) }
 
-pub stretch-near : (b : ℕ → ℕ) (p : Pen) (X : List ℕ) (from n : ℕ) (q : Pen) (Y : List ℕ) → q.next ≡ p.next → q.off ≡ p.off → q.at ≡ p.at + n → Y ≡ set_bits X p.at (stretch b from n) → InksStretch b p X from n q Y
+pub stretch-near : (b : ℕ → ℕ) (p : Stand) (X : List ℕ) (from n : ℕ) (q : Stand) (Y : List ℕ) → q.next ≡ p.next → q.off ≡ p.off → q.at ≡ p.at + n → Y ≡ set_bits X p.at (stretch b from n) → InksStretch b p X from n q Y
 stretch-near b p X from n q Y x y z u = record { next_stays = x; off_stays = y; puts = λ _. (z, u) }
 
 ---------------------------------------------------------------- a number, and a span
 
-module _ (b : ℕ → ℕ) (W : List ℕ) (e w n v : ℕ) (p : Pen) (X : List ℕ) where
-  pub sends_not : (q : Pen) (Y : List ℕ) → whole W p.next e w ≡ false → q.off ≡ true → Sends b W e w n v p X q Y
+module _ (b : ℕ → ℕ) (W : List ℕ) (e w n v : ℕ) (p : Stand) (X : List ℕ) where
+  pub sends_not : (q : Stand) (Y : List ℕ) → whole W p.next e w ≡ false → q.off ≡ true → Sends b W e w n v p X q Y
   sends_not q Y h o = record { refuses = λ _. o; on = λ z. absurd (false≢true (sym h ∙ z)); takes = λ z. absurd (false≢true (sym h ∙ z)); puts = λ z. absurd (false≢true (sym h ∙ z)) }
 
-  pub sends_both : (q : Pen) (Y : List ℕ) (r : Pen) (Z : List ℕ) (s : Pen) → whole W p.next e w ≡ true → Inks p X n v q Y → InksStretch b q Y (first W p) (size W p) r Z
+  pub sends_both : (q : Stand) (Y : List ℕ) (r : Stand) (Z : List ℕ) (s : Stand) → whole W p.next e w ≡ true → Inks p X n v q Y → InksStretch b q Y (first W p) (size W p) r Z
       → s.off ≡ false → s.next ≡ p.next + 1 → s.at ≡ r.at → Sends b W e w n v p X s Z
   sends_both q Y r Z s h x y o k a =
       record {
@@ -53,7 +53,7 @@ module _ (b : ℕ → ℕ) (W : List ℕ) (e w n v : ℕ) (p : Pen) (X : List �
 
 ---------------------------------------------------------------- strings
 
-module _ (b : ℕ → ℕ) (bit : (i : ℕ) → b i < 2) (W : List ℕ) (m t e w : ℕ) (unit : 1 ≤ w) (tagged : span_tag t ≡ true) (fits : ℕ → Bool) (size_of : ℕ → List ℕ) (p : Pen) (X : List ℕ) (q : Pen) (Y : List ℕ) where
+module _ (b : ℕ → ℕ) (bit : (i : ℕ) → b i < 2) (W : List ℕ) (m t e w : ℕ) (unit : 1 ≤ w) (tagged : span_tag t ≡ true) (fits : ℕ → Bool) (size_of : ℕ → List ℕ) (p : Stand) (X : List ℕ) (q : Stand) (Y : List ℕ) where
   abbrev enc : List ℕ → List ℕ
   enc cs = size_of (length cs) ++ unit_bits (2 ^ w) cs
 

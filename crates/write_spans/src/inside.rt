@@ -6,6 +6,7 @@ ghost use Rattle.pens.specs.Rest.{rest};
 
 use cm_tags::{ARS, LOC_SYS_NSEL_TSEL, RDP};
 use cpdlc_tags::{AIRCRAFT_ADDRESS, INTEGRITY_CHECK};
+use pens::Records;
 
 // Whether records with this tag are spans.
 pub fn is_span_tag(tag: u64) -> bool
@@ -34,28 +35,26 @@ fn has_bits(src: &[u8], from: u64, n: u64) -> bool
 }
 
 // Whether record i is no span, or one that lies inside.
-fn is_inside(words: &[u64], i: usize, src: &[u8]) -> bool
-    requires { (i * 5 + 5 ≤ length words.now) × (i < 2 ^ 32) }
-    ensures { result ≡ (not (span_tag (get_or words.now (i * 5) 0)) || leb (get_or words.now (i * 5 + 2) 0 + get_or words.now (i * 5 + 3) 0) (length src.now * 8)) }
+fn is_inside(records: Records, i: usize, src: &[u8]) -> bool
+    requires { i < records.len }
+    ensures { result ≡ (not (span_tag (get_or records.entry.words.now (i * 5) 0)) || leb (get_or records.entry.words.now (i * 5 + 2) 0 + get_or records.entry.words.now (i * 5 + 3) 0) (length src.now * 8)) }
 {
     let k = i * 5;
+    let words = records.words;
     if is_span_tag(words[k]) {
         return has_bits(src, words[k + 2], words[k + 3]);
     }
     true
 }
 
-// Whether no span of the m records goes past the slice.
-pub fn spans_inside(words: &[u64], m: usize, src: &[u8]) -> bool
-    requires { (m * 5 ≤ length words.now) × (m < 2 ^ 32) }
-    ensures { result ≡ inside span_tag (length src.now * 8) (rest words.now m 0) }
+// Whether no span of the records goes past the slice.
+pub fn spans_inside(records: Records, src: &[u8]) -> bool
+    ensures { result ≡ inside span_tag (length src.now * 8) (rest records.entry.words.now records.entry.len 0) }
 {
-    let mut i: usize = 0;
-    while i < m {
-        if !is_inside(words, i, src) {
+    for i in 0..records.len {
+        if !is_inside(records, i, src) {
             return false;
         }
-        i += 1;
     }
     true
 }

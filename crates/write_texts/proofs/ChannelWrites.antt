@@ -7,7 +7,7 @@ use Rattle.x691.specs.Encoding.{encode}
 use Rattle.atn.specs.Format.{text, first, numeric, type_of}
 use Rattle.record_lists.specs.Items.{Item, plain}
 use Rattle.record_lists.specs.Parse.{peel, parse}
-use Rattle.pens.specs.declared.Pen.{Pen}
+use Rattle.pens.specs.Stand.{Stand}
 use Rattle.pens.specs.Rest.{items}
 use Rattle.pens.specs.Writes.{Writes, Part}
 use Rattle.pens.proofs.PenLaws.{then_writes}
@@ -16,13 +16,13 @@ use Rattle.numeric_strings.specs.Spacing.{spaced_octets}
 use Rattle.write_texts.proofs.ChannelLaws.{channel_steps, linked}
 
 -- one record more
-abbrev Met : (u e : ℕ) (b : ℕ → ℕ) (W : List ℕ) (m : ℕ) (Y : List ℕ) → ℕ → Pen → Pen → Type 0
+abbrev Met : (u e : ℕ) (b : ℕ → ℕ) (W : List ℕ) (m : ℕ) (Y : List ℕ) → ℕ → Stand → Stand → Type 0
 Met u e b W m Y v p q = Writes (λ _. []) (λ R. peel (plain u e v 12 ∷ []) zero R) (λ i. items b W m i) m p Y q Y
 
 abbrev enc : ℕ → List ℕ → List ℕ
 enc t v = encode (type_of (text t 11 (first 48) 12 12)) v
 
-module _ (t u e y : ℕ) (b : ℕ → ℕ) (W : List ℕ) (m : ℕ) (p q h r : Pen) (X Y : List ℕ) (w x : ℕ) {f g : ℕ} (f-is : f ≡ spaced_octets 8 w) (g-is : g ≡ spaced_octets 8 x) where
+module _ (t u e y : ℕ) (b : ℕ → ℕ) (W : List ℕ) (m : ℕ) (p q h r : Stand) (X Y : List ℕ) (w x : ℕ) {f g : ℕ} (f-is : f ≡ spaced_octets 8 w) (g-is : g ≡ spaced_octets 8 x) where
   pub channel-written : (p.next + 0 < m → w ≡ get_or W ((p.next + 0) * 5 + 2) 0) → (p.next + 1 < m → x ≡ get_or W ((p.next + 1) * 5 + 2) 0)
       → Part (text t 11 (first 48) 12 12) (e, y) b W m p X q Y → Met u e b W m Y f q h → Met u e b W m Y g h r → Part (text t 11 (numeric u) 12 12) (e, y) b W m p X r Y
   channel-written k l one front rear =

@@ -10,7 +10,7 @@ use Rattle.x691.specs.Encoding.{width, joined, unit_bits}
 use Rattle.record_lists.specs.Items.{Item, plain, bits}
 use Rattle.record_lists.specs.Kinds.{span_tag}
 use Rattle.record_lists.specs.Parse.{value_in, value_of, same, peel, feed}
-use Rattle.pens.specs.declared.Pen.{Pen}
+use Rattle.pens.specs.Stand.{Stand}
 use Rattle.pens.specs.Rest.{items}
 use Rattle.pens.specs.Writes.{Writes}
 use Rattle.pens.proofs.RestLaws.{item_of, items-end, items-cons}
@@ -35,7 +35,7 @@ module _ (t e n c s : ℕ) where
       go false = refl
 
   module _ (b : ℕ → ℕ) (W : List ℕ) (m : ℕ) where
-    pub record_in : (j w : ℕ) (p q r : Pen) (X Y Z : List ℕ) → p.next < m → w ≡ get_or W (p.next * 5 + 2) 0
+    pub record_in : (j w : ℕ) (p q r : Stand) (X Y Z : List ℕ) → p.next < m → w ≡ get_or W (p.next * 5 + 2) 0
         → Writes (λ _. []) (λ R. peel (plain t e w s ∷ []) zero R) (λ i. items b W m i) m p X q Y
         → Writes (λ us. unit_bits n us) (λ R. in_word n c j 8 w R) (λ i. items b W m i) m q Y r Z
         → Writes (λ us. unit_bits n us) (λ R. in_record t e n c s j R) (λ i. items b W m i) m p X r Z
@@ -44,13 +44,13 @@ module _ (t e n c s : ℕ) where
         writes_as _ _ _ (λ R. in_record t e n c s j R) (λ i. items b W m i) m p X r Z
         (feed_same (peel (plain t e w s ∷ []) zero (items b W m p.next)) (λ _ S. in_word n c j 8 w S) ∙ rw (items-cons b W m p.next l, z) (record-at b j _ _ _ _ _)) (λ v S _. refl) f
 
-    pub record-lacks : (j : ℕ) (p q : Pen) (X Y : List ℕ) → m ≤ p.next → q.off ≡ true → Writes (λ us. unit_bits n us) (λ R. in_record t e n c s j R) (λ i. items b W m i) m p X q Y
+    pub record-lacks : (j : ℕ) (p q : Stand) (X Y : List ℕ) → m ≤ p.next → q.off ≡ true → Writes (λ us. unit_bits n us) (λ R. in_record t e n c s j R) (λ i. items b W m i) m p X q Y
     unfolding in_record peel feed
     record-lacks j p q X Y l o = writes_none _ (λ R. in_record t e n c s j R) (λ i. items b W m i) m p X q Y (rw (items-end b W m p.next l)) o
 
   module _ (T : ℕ → List Item) (m : ℕ) where
     -- j of the k characters that are left
-    pub records-turn : (k j : ℕ) (p q r : Pen) (X Y Z : List ℕ) → 0 < k → j ≡ min 8 k → Writes (λ us. unit_bits n us) (λ R. in_record t e n c s j R) T m p X q Y
+    records-turn : (k j : ℕ) (p q r : Stand) (X Y Z : List ℕ) → 0 < k → j ≡ min 8 k → Writes (λ us. unit_bits n us) (λ R. in_record t e n c s j R) T m p X q Y
         → Writes (λ us. unit_bits n us) (λ R. in_records t e n c s ((k - j + 7) / 8) (k - j) R) T m q Y r Z → Writes (λ us. unit_bits n us) (λ R. in_records t e n c s ((k + 7) / 8) k R) T m p X r Z
     unfolding in_records
     records-turn k j p q r X Y Z l i a b =
@@ -58,6 +58,13 @@ module _ (t e n c s : ℕ) where
         let g : k - j ≡ k - 8 = omega arith in
         rw f (then_writes (λ us. unit_bits n us) (λ us. unit_bits n us) (λ us. unit_bits n us) _ _ (λ us vs. us ++ vs) (units-join n) T m p q r X Y Z (rw i at a) (rw g at b))
 
-    pub records-end : (k : ℕ) (p : Pen) (X : List ℕ) → k ≡ 0 → Writes (λ us. unit_bits n us) (λ R. in_records t e n c s ((k + 7) / 8) k R) T m p X p X
+    -- the same as a turn of the loop has it, for the record i
+    pub records_turn : (k i j : ℕ) (p q r : Stand) (X Y Z : List ℕ) → i * 8 < k → j ≡ min 8 (k - i * 8) → Writes (λ us. unit_bits n us) (λ R. in_record t e n c s j R) T m p X q Y
+        → Writes (λ us. unit_bits n us) (λ R. in_records t e n c s ((k - (i + 1) * 8 + 7) / 8) (k - (i + 1) * 8) R) T m q Y r Z → Writes (λ us. unit_bits n us) (λ R. in_records t e n c s ((k - i * 8 + 7) / 8) (k - i * 8) R) T m p X r Z
+    records_turn k i j p q r X Y Z l h a b =
+        let g : k - (i + 1) * 8 ≡ k - i * 8 - j = omega arith in
+        records-turn (k - i * 8) j p q r X Y Z (omega arith) h a (rw g at b)
+
+    pub records-end : (k : ℕ) (p : Stand) (X : List ℕ) → k ≡ 0 → Writes (λ us. unit_bits n us) (λ R. in_records t e n c s ((k + 7) / 8) k R) T m p X p X
     unfolding in_records unit_bits joined
     records-end k p X h = rw h (writes_nothing (λ us. unit_bits n us) [] refl T m p X)

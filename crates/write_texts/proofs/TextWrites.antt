@@ -14,7 +14,7 @@ use Rattle.record_lists.specs.Items.{Item, plain, bits}
 use Rattle.record_lists.specs.Kinds.{span_tag}
 use Rattle.record_lists.specs.Shown.{packed, spelt}
 use Rattle.record_lists.specs.Parse.{got, feed, parse}
-use Rattle.pens.specs.declared.Pen.{Pen}
+use Rattle.pens.specs.Stand.{Stand}
 use Rattle.pens.specs.Rest.{items}
 use Rattle.pens.specs.Writes.{Writes, Inks, Part}
 use Rattle.pens.proofs.RestLaws.{item_of, items-end, items-cons}
@@ -50,20 +50,20 @@ none-size t e c k v S l h = go ((length (coded c v) + 7) / 8) (omega (arith, len
     go zero y q = absurd (omega arith)
     go (suc i) y q = let z : ◌≡◌ {A = ℕ} 0 1 = cc in absurd (omega arith)
 
-module _ (t e y n c lo hi : ℕ) (l : 1 ≤ lo) (h : c + n ≤ 256) (b : ℕ → ℕ) (W : List ℕ) (m : ℕ) (p : Pen) (X : List ℕ) where
+module _ (t e y n c lo hi : ℕ) (l : 1 ≤ lo) (h : c + n ≤ 256) (b : ℕ → ℕ) (W : List ℕ) (m : ℕ) (p : Stand) (X : List ℕ) where
   sized : p.next < m → (v : List ℕ) (S : List Item) → 1 ≤ length v → items b W m p.next ≡ spelt t e (coded c v) ++ S → length v ≡ get_or W (p.next * 5 + 3) 0
   sized d v S o z = front-size b _ _ _ _ t e c _ v S o (sym (items-cons b W m p.next d) ∙ z)
 
-  pub text-lacks : (r : Pen) (Z : List ℕ) → m ≤ p.next → r.off ≡ true → Part (text t n (first c) lo hi) (e, y) b W m p X r Z
+  pub text-lacks : (r : Stand) (Z : List ℕ) → m ≤ p.next → r.off ≡ true → Part (text t n (first c) lo hi) (e, y) b W m p X r Z
   text-lacks r Z d o =
       writes_none _ (λ R. parse (text t n (first c) lo hi) (e, y) R) (λ i. items b W m i) m p X r Z
       (other_size t e y n c lo hi l h _ 0 (λ v S q z. none-size t e c 0 v S q (sym (items-end b W m p.next d) ∙ z)) (λ z. omega (arith, l, z.0))) o
 
-  pub text-sized_otherwise : (r : Pen) (Z : List ℕ) → p.next < m → ((lo ≤ get_or W (p.next * 5 + 3) 0) × (get_or W (p.next * 5 + 3) 0 ≤ hi) → ⊥) → r.off ≡ true → Part (text t n (first c) lo hi) (e, y) b W m p X r Z
+  pub text-sized_otherwise : (r : Stand) (Z : List ℕ) → p.next < m → ((lo ≤ get_or W (p.next * 5 + 3) 0) × (get_or W (p.next * 5 + 3) 0 ≤ hi) → ⊥) → r.off ≡ true → Part (text t n (first c) lo hi) (e, y) b W m p X r Z
   text-sized_otherwise r Z d f o = writes_none _ (λ R. parse (text t n (first c) lo hi) (e, y) R) (λ i. items b W m i) m p X r Z (other_size t e y n c lo hi l h _ _ (sized d) f) o
 
   -- the size, then the records
-  pub text-written : (q r : Pen) (Y Z : List ℕ) (w : ℕ) → w ≡ width (hi - lo) → p.next < m → lo ≤ get_or W (p.next * 5 + 3) 0 → get_or W (p.next * 5 + 3) 0 ≤ hi
+  pub text-written : (q r : Stand) (Y Z : List ℕ) (w : ℕ) → w ≡ width (hi - lo) → p.next < m → lo ≤ get_or W (p.next * 5 + 3) 0 → get_or W (p.next * 5 + 3) 0 ≤ hi
       → Inks p X w (get_or W (p.next * 5 + 3) 0 - lo) q Y
       → Writes (λ us. unit_bits n us) (λ R. in_records t e n c (get_or W (p.next * 5 + 3) 0) ((get_or W (p.next * 5 + 3) 0 + 7) / 8) (get_or W (p.next * 5 + 3) 0) R) (λ i. items b W m i) m q Y r Z
       → Part (text t n (first c) lo hi) (e, y) b W m p X r Z

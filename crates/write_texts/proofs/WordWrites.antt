@@ -12,7 +12,7 @@ use Rattle.record_lists.specs.Items.{Item}
 use Rattle.record_lists.specs.Parse.{got}
 use Rattle.record_lists.proofs.First.{and_no}
 use Rattle.numeric_strings.proofs.SpacingLaws.{pow-octets}
-use Rattle.pens.specs.declared.Pen.{Pen}
+use Rattle.pens.specs.Stand.{Stand}
 use Rattle.pens.specs.Writes.{Writes, Inks}
 use Rattle.pens.proofs.PenLaws.{then_writes}
 use Rattle.write_texts.specs.Letters.{in_octet, in_word}
@@ -20,7 +20,7 @@ use Rattle.pens.proofs.GotLaws.{writes_as, writes_none, writes_nothing, writes_i
 
 ---------------------------------------------------------------- one character
 
-module _ (n c x : ℕ) (T : ℕ → List Item) (m : ℕ) (p : Pen) (X : List ℕ) (q : Pen) (Y : List ℕ) where
+module _ (n c x : ℕ) (T : ℕ → List Item) (m : ℕ) (p : Stand) (X : List ℕ) (q : Stand) (Y : List ℕ) where
   pub character_in : (k : ℕ) → k ≡ width (n - 1) → c ≤ x → x - c < n → Inks p X k (x - c) q Y → Writes (λ u. bits_of (width (n - 1)) u) (λ R. in_octet n c x R) T m p X q Y
   unfolding in_octet
   character_in k e a b i =
@@ -41,25 +41,25 @@ unfolding unit_bits joined
 units-cons n u us = refl
 
 module _ (n c : ℕ) (T : ℕ → List Item) (m : ℕ) where
-  word_more : (j k w : ℕ) (p q r : Pen) (X Y Z : List ℕ) → Writes (λ u. bits_of (width (n - 1)) u) (λ R. in_octet n c (w / 2 ^ (k * 8)) R) T m p X q Y
+  word_more : (j k w : ℕ) (p q r : Stand) (X Y Z : List ℕ) → Writes (λ u. bits_of (width (n - 1)) u) (λ R. in_octet n c (w / 2 ^ (k * 8)) R) T m p X q Y
       → Writes (λ us. unit_bits n us) (λ R. in_word n c j k (w % 2 ^ (k * 8)) R) T m q Y r Z → Writes (λ us. unit_bits n us) (λ R. in_word n c (suc j) (suc k) w R) T m p X r Z
   unfolding in_word
   word_more j k w p q r X Y Z a b =
       rw (pow-octets k) at (then_writes (λ u. bits_of (width (n - 1)) u) (λ us. unit_bits n us) (λ us. unit_bits n us) _ _ (λ u us. u ∷ us) (units-cons n) T m p q r X Y Z a b)
 
-  -- the same as a turn of the loop has it: o octets are left, of which s have no character
-  pub word-turn : (o s w : ℕ) (p q r : Pen) (X Y Z : List ℕ) → s < o → Writes (λ u. bits_of (width (n - 1)) u) (λ R. in_octet n c (w / 2 ^ ((o - 1) * 8)) R) T m p X q Y
-      → Writes (λ us. unit_bits n us) (λ R. in_word n c (o - 1 - s) (o - 1) (w % 2 ^ ((o - 1) * 8)) R) T m q Y r Z → Writes (λ us. unit_bits n us) (λ R. in_word n c (o - s) o w R) T m p X r Z
-  word-turn zero s w p q r X Y Z l a b = absurd (omega arith)
-  word-turn (suc k) s w p q r X Y Z l a b =
-      let e : suc k - 1 ≡ k = omega arith in
-      let f : suc k - s ≡ suc (k - s) = omega arith in
-      rw f (word_more (k - s) k w p q r X Y Z (rw e at a) (rw e at b))
+  -- the same as a turn of the loop has it, for the octet i
+  pub word_turn : (k i w : ℕ) (p q r : Stand) (X Y Z : List ℕ) → i < k → k ≤ 8 → Writes (λ u. bits_of (width (n - 1)) u) (λ R. in_octet n c (w / 2 ^ ((7 - i) * 8)) R) T m p X q Y
+      → Writes (λ us. unit_bits n us) (λ R. in_word n c (k - (i + 1)) (8 - (i + 1)) (w % 2 ^ ((7 - i) * 8)) R) T m q Y r Z → Writes (λ us. unit_bits n us) (λ R. in_word n c (k - i) (8 - i) w R) T m p X r Z
+  word_turn k i w p q r X Y Z l h a b =
+      let e : k - i ≡ suc (k - (i + 1)) = omega arith in
+      let f : 8 - i ≡ suc (7 - i) = omega arith in
+      let g : 8 - (i + 1) ≡ 7 - i = omega arith in
+      rw (e, f) (word_more (k - (i + 1)) (7 - i) w p q r X Y Z a (rw g at b))
 
-  pub word_ends : (k w : ℕ) (p : Pen) (X : List ℕ) → w ≡ 0 → Writes (λ us. unit_bits n us) (λ R. in_word n c zero k w R) T m p X p X
+  pub word_ends : (k w : ℕ) (p : Stand) (X : List ℕ) → w ≡ 0 → Writes (λ us. unit_bits n us) (λ R. in_word n c zero k w R) T m p X p X
   unfolding in_word unit_bits joined
   word_ends k w p X e = rw e (writes_nothing (λ us. unit_bits n us) [] refl T m p X)
 
-  pub word_goes_on : (k w : ℕ) (p q : Pen) (X Y : List ℕ) → (w ≡ 0 → ⊥) → q.off ≡ true → Writes (λ us. unit_bits n us) (λ R. in_word n c zero k w R) T m p X q Y
+  pub word_goes_on : (k w : ℕ) (p q : Stand) (X Y : List ℕ) → (w ≡ 0 → ⊥) → q.off ≡ true → Writes (λ us. unit_bits n us) (λ R. in_word n c zero k w R) T m p X q Y
   unfolding in_word
   word_goes_on k w p q X Y e o = writes_none _ (λ R. in_word n c zero k w R) T m p X q Y (rw (ne_eqb w 0 e)) o

@@ -4,9 +4,10 @@
 ghost use Rattle.std.specs.Prelude.{◌≡◌, false, ℕ, ◌+◌, ◌*◌, ◌^◌, ◌≤◌, ◌<◌, length};
 ghost use Rattle.atn.specs.Format.{text, first};
 ghost use Rattle.record_lists.specs.Kinds.{span_tag};
+ghost use Rattle.pens.specs.Stand.{before, after};
 ghost use Rattle.pens.specs.Writes.{Part};
 
-use pens::{Pen, ink, refuse};
+use pens::{Pen, Records, Refused, ink};
 use per::width::bits_for;
 
 pub mod channel; // channel.rt: a satellite channel, whose characters stand there twice
@@ -15,8 +16,7 @@ mod record; // record.rt: the characters of records, eight to a record
 
 // A text of lo to hi of the n characters from code c on, with this tag, in this element.
 pub fn write_text(
-    words: &[u64],
-    m: usize,
+    records: Records,
     out: &mut [u8],
     p: Pen,
     element: u64,
@@ -25,21 +25,21 @@ pub fn write_text(
     c: u64,
     lo: u64,
     hi: u64,
-) -> Pen
-    requires { (m * 5 ≤ length words.now) × (m < 2 ^ 32) × (span_tag tag ≡ false) × (1 ≤ lo) × (1 ≤ n) × (c + n ≤ 256) × (lo ≤ hi) }
-    ensures { (b : ℕ → ℕ) (y : ℕ) → Part (text tag n (first c) lo hi) (element, y) b words.now m p out.old result out.new }
+) -> Result<Pen, Refused>
+    requires { (span_tag tag ≡ false) × (1 ≤ lo) × (1 ≤ n) × (c + n ≤ 256) × (lo ≤ hi) }
+    ensures { (b : ℕ → ℕ) (y : ℕ) → Part (text tag n (first c) lo hi) (element, y) b records.entry.words.now records.entry.len (before p) out.old (after result) out.new }
 {
     let i = p.next;
-    if m <= i {
-        return refuse(p);
+    if records.len <= i {
+        return Err(Refused);
     }
-    let size = words[i * 5 + 3];
+    let size = records.words[i * 5 + 3];
     if size < lo {
-        return refuse(p);
+        return Err(Refused);
     }
     if hi < size {
-        return refuse(p);
+        return Err(Refused);
     }
     let q = ink(out, p, bits_for(hi - lo), size - lo);
-    record::write_records(words, m, out, q, element, tag, n, c, size)
+    record::write_records(records, out, q, element, tag, n, c, size)
 }

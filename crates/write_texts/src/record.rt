@@ -3,16 +3,16 @@ ghost use Rattle.std.specs.Prelude.{◌≡◌, false, ℕ, ◌+◌, ◌*◌, ◌
 ghost use Rattle.x691.specs.Encoding.{unit_bits};
 ghost use Rattle.record_lists.specs.Kinds.{span_tag};
 ghost use Rattle.pens.specs.Rest.{items};
+ghost use Rattle.pens.specs.Stand.{before, after};
 ghost use Rattle.pens.specs.Writes.{Writes};
 ghost use Rattle.write_texts.specs.Letters.{in_record, in_records};
 
 use super::word::write_word;
-use pens::{Pen, refuse, take};
+use pens::{Pen, Records, Refused, take};
 
 // The next k characters of a text of so many.
 fn write_record(
-    words: &[u64],
-    m: usize,
+    records: Records,
     out: &mut [u8],
     p: Pen,
     element: u64,
@@ -21,16 +21,16 @@ fn write_record(
     c: u64,
     size: u64,
     k: u64,
-) -> Pen
-    requires { (m * 5 ≤ length words.now) × (m < 2 ^ 32) × (span_tag tag ≡ false) × (1 ≤ n) × (k ≤ 8) }
-    ensures { (b : ℕ → ℕ) → Writes (λ us. unit_bits n us) (λ R. in_record tag element n c size k R) (λ i. items b words.now m i) m p out.old result out.new }
+) -> Result<Pen, Refused>
+    requires { (span_tag tag ≡ false) × (1 ≤ n) × (k ≤ 8) }
+    ensures { (b : ℕ → ℕ) → Writes (λ us. unit_bits n us) (λ R. in_record tag element n c size k R) (λ i. items b records.entry.words.now records.entry.len i) records.entry.len (before p) out.old (after result) out.new }
 {
     let i = p.next;
-    if m <= i {
-        return refuse(p);
+    if records.len <= i {
+        return Err(Refused);
     }
-    let w = words[i * 5 + 2];
-    let q = take(words, m, p, tag, element, w, size);
+    let w = records.words[i * 5 + 2];
+    let q = take(records, p, tag, element, w, size)?;
     write_word(out, q, w, k, n, c)
 }
 
@@ -38,16 +38,12 @@ fn write_record(
 fn in_record(left: u64) -> u64
     ensures { result ≡ min 8 left }
 {
-    if left < 8 {
-        return left;
-    }
-    8
+    left.min(8)
 }
 
 // All characters of a text of so many.
 pub fn write_records(
-    words: &[u64],
-    m: usize,
+    records: Records,
     out: &mut [u8],
     p: Pen,
     element: u64,
@@ -55,16 +51,15 @@ pub fn write_records(
     n: u64,
     c: u64,
     size: u64,
-) -> Pen
-    requires { (m * 5 ≤ length words.now) × (m < 2 ^ 32) × (span_tag tag ≡ false) × (1 ≤ n) }
-    ensures { (b : ℕ → ℕ) → Writes (λ us. unit_bits n us) (λ R. in_records tag element n c size ((size + 7) / 8) size R) (λ i. items b words.now m i) m p out.old result out.new }
+) -> Result<Pen, Refused>
+    requires { (span_tag tag ≡ false) × (1 ≤ n) }
+    ensures { (b : ℕ → ℕ) → Writes (λ us. unit_bits n us) (λ R. in_records tag element n c size ((size + 7) / 8) size R) (λ i. items b records.entry.words.now records.entry.len i) records.entry.len (before p) out.old (after result) out.new }
 {
     let mut q = p;
-    let mut left = size;
-    while left > 0 {
+    for i in 0..size.div_ceil(8) {
+        let left = size - i * 8;
         let k = in_record(left);
-        q = write_record(words, m, out, q, element, tag, n, c, size, k);
-        left -= k;
+        q = write_record(records, out, q, element, tag, n, c, size, k)?;
     }
-    q
+    Ok(q)
 }

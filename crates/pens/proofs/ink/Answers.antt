@@ -6,14 +6,5 @@ use Rattle.pens.proofs.ink.Goals as goal
 pub returns-then-at-gt-LIMIT : goal.returns-then-at-gt-LIMIT
 returns-then-at-gt-LIMIT c = ink_far _ _ _ _ _ c.if-at-gt-LIMIT.true
 
-pub put-requires : goal.put-requires
-put-requires c = search rules
-
-pub overflow_add-result : goal.overflow_add-result
-overflow_add-result c = search rules
-
-pub shape_of-out : goal.shape_of-out
-shape_of-out c = search rules
-
 pub returns : goal.returns
 returns c = ink-near _ _ _ _ _ _ refl refl refl c.put.ensures

@@ -7,4 +7,4 @@ pub returns-then-is_whole : goal.returns-then-is_whole
 returns-then-is_whole c = sends_both _ _ _ _ _ _ _ _ _ _ _ _ _ (sym c.is_whole.ensures ∙ c.if-is_whole.true) c.ink-sized.ensures c.ink_span-behind.ensures refl refl refl
 
 pub returns : goal.returns
-returns c = sends_not _ _ _ _ _ _ _ _ _ _ (sym c.is_whole.ensures ∙ c.if-is_whole.false) c.refuse.ensures
+returns c = sends_not _ _ _ _ _ _ _ _ _ _ (sym c.is_whole.ensures ∙ c.if-is_whole.false) refl

@@ -6,14 +6,14 @@ use Rattle.write_spans.proofs.units.units_at.Goals as goal
 pub returns-then-words-k : goal.returns-then-words-k
 returns-then-words-k c =
     let a = c.args in
-    (λ b. units_there b a.words.now a.m a.i a.tag a.w c.if-i-m.true c.if-words-k.true c.requires.2, λ _. (c.if-i-m.true, c.if-words-k.true))
+    (λ b. units_there b a.records.words.now a.records.len a.i a.tag a.w c.if-i-records.true c.if-words-k.true c.requires.0, λ _. (c.if-i-records.true, c.if-words-k.true))
 
 pub returns-else-words-k : goal.returns-else-words-k
 returns-else-words-k c =
     let a = c.args in
-    (λ b. units_other b a.words.now a.m a.i a.tag a.w c.if-i-m.true c.if-words-k.false, λ h. absurd (omega (arith, h)))
+    (λ b. units_other b a.records.words.now a.records.len a.i a.tag a.w c.if-i-records.true c.if-words-k.false, λ h. absurd (omega (arith, h)))
 
-pub returns-else-i-m : goal.returns-else-i-m
-returns-else-i-m c =
+pub returns-else-i-records : goal.returns-else-i-records
+returns-else-i-records c =
     let a = c.args in
-    (λ b. units-end b a.words.now a.m a.i a.tag a.w c.if-i-m.false, λ h. absurd (omega (arith, h)))
+    (λ b. units-end b a.records.words.now a.records.len a.i a.tag a.w c.if-i-records.false, λ h. absurd (omega (arith, h)))

@@ -1,33 +1,25 @@
-use mathlib.Core.Path.{refl}
+use mathlib.Core.Path.{◌≡◌, refl}
+use Prim.Native.Nat.{ℕ, ◌-◌, ◌*◌}
 use native.Mathlib.Omega.{arith}
-use borrow.Author.Rules.{rules}
-use Rattle.write_texts.proofs.RecordWrites.{records-turn, records-end}
+use Rattle.pens.proofs.GotLaws.{went_off}
+use Rattle.pens.proofs.PenLaws.{writes_still}
+use Rattle.write_texts.proofs.RecordWrites.{records_turn, records-end}
 use Rattle.write_texts.proofs.record.write_records.Goals as goal
 
-pub loop-left-init : goal.loop-left-init
-loop-left-init c = (refl, λ b r Z x. x)
+all_left : (k : ℕ) → k - 0 * 8 ≡ k
+all_left k = omega arith
 
-pub in_record-k-requires : goal.in_record-k-requires
-in_record-k-requires c = search rules
+pub loop-i-init : goal.loop-i-init
+loop-i-init c = λ b r Z x. rw (all_left c.args.size) at x
 
-pub write_record-q-requires : goal.write_record-q-requires
-write_record-q-requires c = search rules
+pub returns-in_err-q : goal.returns-in_err-q
+returns-in_err-q c =
+    λ b.
+    rw (went_off _ c.from_residual.result c.from_residual.ensures.1) (c.loop-i.invariant b _ _ (records_turn _ _ _ _ _ _ _ c.args.size c.loop-i.i _ _ _ _ _ _ _ (omega arith) c.in_record-k.ensures (c.in_err-q.ensures b) (writes_still _ _ _ _ _ _ _ _ refl refl)))
 
-pub overflow_sub-left : goal.overflow_sub-left
-overflow_sub-left c = omega arith
-
-pub loop-left-smaller : goal.loop-left-smaller
-loop-left-smaller c = omega arith
-
-pub loop-left-preserved : goal.loop-left-preserved
-loop-left-preserved c =
-    let z = c.loop-left in (
-      omega arith,
-      λ b r Z x. z.invariant.1 b r Z (records-turn _ _ _ _ _ _ _ z.left _ _ _ _ _ _ _ c.loop-left-test.true c.in_record-k.ensures (c.write_record-q.ensures b) x),
-    )
-
-pub shape_of-out : goal.shape_of-out
-shape_of-out c = c.loop-left.invariant.0
+pub loop-i-preserved : goal.loop-i-preserved
+loop-i-preserved c =
+    λ b r Z x. c.loop-i.invariant b r Z (records_turn _ _ _ _ _ _ _ c.args.size c.loop-i.i _ _ _ _ _ _ _ (omega arith) c.in_record-k.ensures (c.in_ok-q.ensures b) x)
 
 pub returns : goal.returns
-returns c = λ b. c.loop-left.invariant.1 b _ _ (records-end _ _ _ _ _ _ _ _ _ _ (omega arith))
+returns c = λ b. c.loop-i.invariant b _ _ (records-end _ _ _ _ _ _ _ _ _ _ (omega arith))
