@@ -12,14 +12,13 @@ use Rattle.x691.proofs.Widths.{unit-fits}
 use Rattle.record_lists.specs.Items.{Item, plain}
 use Rattle.record_lists.specs.Parse.{Got, no, got, begins, keep}
 use Rattle.record_lists.proofs.Forth.{nothing}
-use Rattle.pens.specs.declared.Pen.{Pen}
+use Rattle.pens.specs.Stand.{Stand}
 use Rattle.pens.specs.Rest.{items}
 use Rattle.pens.specs.Writes.{Inks}
 use Rattle.pens.proofs.FrontLaws.{value, leaf_end, leaf_front, one-begins}
 use Rattle.pens.proofs.GotLaws.{writes_none}
 use Rattle.pens.proofs.PenLaws.{writes_still, writes_got}
-use Rattle.write_leaves.specs.declared.index.Indexed.{Indexed}
-use Rattle.write_leaves.specs.Index.{index_of, Indexes}
+use Rattle.write_leaves.specs.Index.{Indexed, index_of, Indexes}
 
 module _ (b : ℕ → ℕ) (W : List ℕ) (m t e n : ℕ) where
   abbrev T : ℕ → List Item
@@ -49,7 +48,7 @@ module _ (b : ℕ → ℕ) (W : List ℕ) (m t e n : ℕ) where
   unfolding keep
   index_got i h l k = index_at i h ∙ rw (k, lt-ltb (value W i) n l)
 
-  module _ (p : Pen) (X : List ℕ) (q : Indexed) (Y : List ℕ) where
+  module _ (p : Stand) (X : List ℕ) (q : Indexed) (Y : List ℕ) where
     pub indexes_still : p.off ≡ true → q.p.off ≡ true → q.v < n → Indexes t e n b W m p X q Y
     indexes_still h o v = record { writes = writes_still _ _ T m p X q.p Y h o; named = λ z l i S k. absurd (false≢true (sym z ∙ h)); below = v }
 
@@ -65,7 +64,7 @@ module _ (b : ℕ → ℕ) (W : List ℕ) (m t e n : ℕ) where
     pub indexes_other : p.off ≡ false → p.next < m → begins (plain t e (value W p.next) 0) (T p.next) ≡ false → (q.p.off ≡ true) × (q.v ≡ 0) → 1 ≤ n → Indexes t e n b W m p X q Y
     indexes_other h l k o s = none h (index_other p.next l k) o s
 
-    pub indexes_got : (r : Pen) → p.off ≡ false → p.next < m → value W p.next < n → begins (plain t e (value W p.next) 0) (T p.next) ≡ true
+    pub indexes_got : (r : Stand) → p.off ≡ false → p.next < m → value W p.next < n → begins (plain t e (value W p.next) 0) (T p.next) ≡ true
         → Inks p X (width (n - 1)) (value W p.next) r Y → q.v ≡ value W p.next → q.p.next ≡ p.next + 1 → q.p.at ≡ r.at → q.p.off ≡ false → Indexes t e n b W m p X q Y
     indexes_got r h l k g a v x y o =
         let j = index_got p.next l k g in
@@ -92,5 +91,5 @@ module _ (b : ℕ → ℕ) (W : List ℕ) (m t e n : ℕ) where
 pub index-fits : (n : ℕ) {v w : ℕ} → v < n → w ≡ width (n - 1) → v < 2 ^ w
 index-fits n {v} {w} h e = rw e (unit-fits n v h)
 
-pub inks_width : {p q : Pen} {X Y : List ℕ} {w v u : ℕ} → w ≡ u → Inks p X w v q Y → Inks p X u v q Y
+pub inks_width : {p q : Stand} {X Y : List ℕ} {w v u : ℕ} → w ≡ u → Inks p X w v q Y → Inks p X u v q Y
 inks_width e a = rw (← e) a

@@ -16,7 +16,7 @@ use Rattle.record_lists.specs.Kinds.{span_tag}
 use Rattle.record_lists.specs.Parse.{parse}
 use Rattle.node_tables.specs.Nodes.{letters_by, format_of}
 use Rattle.node_tables.specs.Sure.{sure_of, sure_letters, sure_unit, sure_size}
-use Rattle.pens.specs.declared.Pen.{Pen}
+use Rattle.pens.specs.Stand.{Stand}
 use Rattle.pens.specs.Writes.{Part}
 use Rattle.write_leaves.specs.Lent.{SureLeaf}
 
@@ -68,7 +68,7 @@ module _ (a b c d e : ℕ) {kind : ℕ} where
 ---------------------------------------------------------------- what it is
 
 -- a part of a format, by another name for it
-pub part_as : (f g : Fmt) (x : Ctx) (s : ℕ → ℕ) (W : List ℕ) (m : ℕ) (p : Pen) (X : List ℕ) (q : Pen) (Y : List ℕ) → f ≡ g → Part g x s W m p X q Y → Part f x s W m p X q Y
+pub part_as : (f g : Fmt) (x : Ctx) (s : ℕ → ℕ) (W : List ℕ) (m : ℕ) (p : Stand) (X : List ℕ) (q : Stand) (Y : List ℕ) → f ≡ g → Part g x s W m p X q Y → Part f x s W m p X q Y
 part_as f g x s W m p X q Y e h = rw e h
 
 module _ (F : ℕ → Fmt) (N down up : List ℕ) (a b c d e : ℕ) {kind : ℕ} where
@@ -104,7 +104,7 @@ module _ (F : ℕ → Fmt) (N down up : List ℕ) (a b c d e : ℕ) {kind : ℕ}
   unfolding format_of
   no_leaf k = rw k
 
-module _ (x : Ctx) (s : ℕ → ℕ) (W : List ℕ) (m : ℕ) (p : Pen) (X : List ℕ) (q : Pen) (Y : List ℕ) where
+module _ (x : Ctx) (s : ℕ → ℕ) (W : List ℕ) (m : ℕ) (p : Stand) (X : List ℕ) (q : Stand) (Y : List ℕ) where
   pub null_part : Part null x s W m p X p X
   unfolding parse encode set_bits
   null_part = record { still = λ z. z; goes = λ z l. record { on = z; left = refl; fits = l; wrote = λ _. (omega arith, refl) } }

@@ -10,7 +10,7 @@ use Rattle.atn.proofs.Inverse.{both}
 use Rattle.record_lists.specs.Kinds.{span_tag}
 use Rattle.node_tables.specs.Nodes.{letters_by}
 use Rattle.node_tables.specs.Sure.{sure_text, sure_channel, sure_letters}
-use Rattle.pens.specs.declared.Pen.{Pen}
+use Rattle.pens.specs.Stand.{Stand}
 use Rattle.pens.specs.Writes.{Part}
 
 module _ (n c lo hi : ℕ) where
@@ -33,7 +33,7 @@ module _ (n c lo hi : ℕ) where
       let k = both (eqb lo 12) (eqb hi 12) i.1 in
       (eqb-true n 11 j.0, not-true (span_tag (c - 256)) j.1, eqb-true lo 12 k.0, eqb-true hi 12 k.1)
 
-module _ (t e y n c lo hi : ℕ) (b : ℕ → ℕ) (W : List ℕ) (m : ℕ) (p : Pen) (X : List ℕ) (q : Pen) (Y : List ℕ) where
+module _ (t e y n c lo hi : ℕ) (b : ℕ → ℕ) (W : List ℕ) (m : ℕ) (p : Stand) (X : List ℕ) (q : Stand) (Y : List ℕ) where
   pub as_one : c < 256 → Part (text t n (first c) lo hi) (e, y) b W m p X q Y → Part (text t n (letters_by c) lo hi) (e, y) b W m p X q Y
   unfolding letters_by
   as_one l h = rw (lt-ltb c 256 l) h

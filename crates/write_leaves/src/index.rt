@@ -1,57 +1,39 @@
 // The index of an alternative.
 ghost use Rattle.std.specs.Prelude.{◌≡◌, false, true, ℕ, ◌*◌, ◌^◌, ◌≤◌, ◌<◌, length};
 ghost use Rattle.record_lists.specs.Kinds.{span_tag};
-ghost use Rattle.write_leaves.specs.Index.{Indexes};
+ghost use Rattle.pens.specs.Stand.{before};
+ghost use Rattle.write_leaves.specs.Index.{Indexes, index_after};
 
-use pens::{Pen, ink, is_record, refuse};
+use pens::{Pen, Records, Refused, Wrote, ink, is_record};
 use per::width::bits_for;
-
-#[derive(Clone, Copy)]
-pub struct Indexed {
-    pub v: u64,
-    pub p: Pen,
-}
 
 // The record of an index below n, as its bits. Another index has no alternative.
 pub fn write_index(
-    words: &[u64],
-    m: usize,
+    records: Records,
     out: &mut [u8],
     p: Pen,
     element: u64,
     tag: u64,
     n: u64,
-) -> Indexed
-    requires { (m * 5 ≤ length words.now) × (m < 2 ^ 32) × (span_tag tag ≡ false) × (1 ≤ n) }
-    ensures { (b : ℕ → ℕ) → Indexes tag element n b words.now m p out.old result out.new }
+) -> Result<Wrote<u64>, Refused>
+    requires { (span_tag tag ≡ false) × (1 ≤ n) }
+    ensures { (b : ℕ → ℕ) → Indexes tag element n b records.entry.words.now records.entry.len (before p) out.old (index_after result) out.new }
 {
-    if p.off {
-        return Indexed { v: 0, p: p };
-    }
     let i = p.next;
-    if m <= i {
-        return none(p);
+    if records.len <= i {
+        return Err(Refused);
     }
-    let v = words[i * 5 + 2];
+    let v = records.words[i * 5 + 2];
     if n <= v {
-        return none(p);
+        return Err(Refused);
     }
-    if is_record(words, m, i, tag, element, v, 0) {
+    if is_record(records, i, tag, element, v, 0) {
         let q = ink(out, p, bits_for(n - 1), v);
-        let r = Pen {
+        let pen = Pen {
             next: i + 1,
             at: q.at,
-            off: false,
         };
-        return Indexed { v: v, p: r };
+        return Ok(Wrote { value: v, pen });
     }
-    none(p)
-}
-
-// No index: the list is refused.
-fn none(p: Pen) -> Indexed
-    ensures { (result.p.off ≡ true) × (result.v ≡ 0) }
-{
-    let r = refuse(p);
-    Indexed { v: 0, p: r }
+    Err(Refused)
 }

@@ -3,18 +3,17 @@ ghost use Rattle.std.specs.Prelude.{◌≡◌, true, List, ℕ, ◌<◌};
 ghost use Rattle.x691.specs.Bits.{bit_of};
 ghost use Rattle.atn.specs.Format.{Fmt};
 ghost use Rattle.node_tables.specs.Nodes.{format_of};
+ghost use Rattle.pens.specs.Stand.{before, after};
 ghost use Rattle.pens.specs.Writes.{Part};
-ghost use Rattle.write_leaves.specs.Lent.{Lent, SureLeaf};
+ghost use Rattle.write_leaves.specs.Lent.{SureLeaf};
 
 use super::letters::write_letters;
-use pens::{Pen, refuse};
+use pens::{Pen, Refused};
 use write_numbers::{write_name, write_number, write_reason};
-use write_spans::{write_any_span, write_span};
+use write_spans::{Lent, write_any_span, write_span};
 
 pub fn write_leaf(
-    words: &[u64],
-    m: usize,
-    src: &[u8],
+    lent: Lent,
     out: &mut [u8],
     kind: u64,
     a: u64,
@@ -24,30 +23,30 @@ pub fn write_leaf(
     e: u64,
     x: u64,
     p: Pen,
-) -> Pen
-    requires { Lent words.now m src.now × (kind < 8) × SureLeaf kind a b c d e }
-    ensures { (F : ℕ → Fmt) (N down up : List ℕ) (y : ℕ) → Part (format_of F N down up kind a b c d e) (x, y) (bit_of src.now) words.now m p out.old result out.new }
+) -> Result<Pen, Refused>
+    requires { (kind < 8) × SureLeaf kind a b c d e }
+    ensures { (F : ℕ → Fmt) (N down up : List ℕ) (y : ℕ) → Part (format_of F N down up kind a b c d e) (x, y) (bit_of lent.entry.src.now) lent.entry.records.words.now lent.entry.records.len (before p) out.old (after result) out.new }
 {
     if kind == 1 {
-        return write_number(words, m, out, p, x, a, b, c);
+        return write_number(lent.records, out, p, x, a, b, c);
     }
     if kind == 2 {
-        return write_name(words, m, out, p, x, a, b);
+        return write_name(lent.records, out, p, x, a, b);
     }
     if kind == 3 {
-        return write_reason(words, m, out, p, x, a);
+        return write_reason(lent.records, out, p, x, a);
     }
     if kind == 4 {
-        return write_letters(words, m, out, p, x, a, b, c, d, e);
+        return write_letters(lent.records, out, p, x, a, b, c, d, e);
     }
     if kind == 5 {
-        return write_span(words, m, src, out, p, x, a, b, c, d);
+        return write_span(lent, out, p, x, a, b, c, d);
     }
     if kind == 6 {
-        return write_any_span(words, m, src, out, p, x, a, b);
+        return write_any_span(lent, out, p, x, a, b);
     }
     if kind == 7 {
-        return p;
+        return Ok(p);
     }
-    refuse(p)
+    Err(Refused)
 }
