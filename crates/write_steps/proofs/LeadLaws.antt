@@ -1,6 +1,6 @@
 -- A node above one part, by its kind.
-use mathlib.Core.Path.{◌≡◌, refl, ap, ◌∙◌}
-use mathlib.Core.Bool.{Bool, true, false, not, ◌&&◌}
+use mathlib.Core.Path.{◌≡◌, refl, sym, ap, ◌∙◌}
+use mathlib.Core.Bool.{Bool, true, false, not, ◌&&◌, false≢true}
 use mathlib.Core.Logic.{◌⊎◌, inl, inr}
 use mathlib.Core.List.{List, [], ◌∷◌}
 use Prim.Native.Nat.{ℕ, zero, suc, ◌+◌, ◌-◌, ◌≤◌, ◌<◌}
@@ -21,16 +21,21 @@ use Rattle.record_lists.specs.Parse.{peel, parse}
 use Rattle.node_tables.specs.declared.Node.{Node}
 use Rattle.node_tables.specs.Nodes.{format_of, lent_alternatives, lent_table}
 use Rattle.node_tables.specs.Sure.{sure_of, sure_each}
-use Rattle.pens.specs.declared.Pen.{Pen}
+use Rattle.std.specs.Prelude.{Result, Ok, Err}
+use Rattle.std.specs.Result.{IsErrAnd}
+use Rattle.std.proofs.lemmas.Result.{err_from_is_err_and}
+use Rattle.pens.specs.declared.Wrote.{Wrote as Written}
+use Rattle.pens.specs.declared.Refused.{Refused}
+use Rattle.pens.specs.Stand.{Stand, refused}
+use Rattle.pens.proofs.PenLaws.{writes_still}
+use Rattle.write_steps.specs.declared.lead.Below.{Below}
 use Rattle.pens.specs.Rest.{items}
 use Rattle.pens.specs.Writes.{Wrote, Writes, Inks, Part}
 use Rattle.pens.proofs.PartLaws.{noted-part, placed-part, ext_part, choice_part}
-use Rattle.write_leaves.specs.Index.{index_of, Indexes}
+use Rattle.write_leaves.specs.Index.{Indexed, index_of, Indexes}
 use Rattle.write_leaves.specs.Lent.{SureLeaf}
-use Rattle.write_leaves.specs.declared.index.Indexed.{Indexed}
 use Rattle.write_leaves.proofs.LeafLaws.{part_as}
-use Rattle.write_steps.specs.declared.lead.Led.{Led}
-use Rattle.write_steps.specs.Steps.{Above, Leads, LeadsLent}
+use Rattle.write_steps.specs.Steps.{Above, Led, led, Leads, LeadsLent, LeadsTo, LentTo}
 use Rattle.write_steps.proofs.PickLaws.{nth, pick_wrote, choice_index, nth_from, count-lent, nth_lent}
 
 sure-each : (S : ℕ → Bool) (k n i : ℕ) → sure_each S k n ≡ true → i < n → S (k + i) ≡ true
@@ -84,7 +89,7 @@ module _ (a b c d e : ℕ) {kind : ℕ} where
 
 ---------------------------------------------------------------- an index, and its alternative
 
-module _ (b : ℕ → ℕ) (W : List ℕ) (m : ℕ) (x : Ctx) (t n : ℕ) (fs : Alts) (p : Pen) (i : Indexed) (r : Pen) (X Y Z : List ℕ) (size : count (alternatives_of fs) ≡ n) (indexed : Indexes t x.0 n b W m p X i Y) where
+module _ (b : ℕ → ℕ) (W : List ℕ) (m : ℕ) (x : Ctx) (t n : ℕ) (fs : Alts) (p : Stand) (i : Indexed) (r : Stand) (X Y Z : List ℕ) (size : count (alternatives_of fs) ≡ n) (indexed : Indexes t x.0 n b W m p X i Y) where
   abbrev T : ℕ → List Item
   T j = items b W m j
 
@@ -103,16 +108,20 @@ module _ (b : ℕ → ℕ) (W : List ℕ) (m : ℕ) (x : Ctx) (t n : ℕ) (fs : 
       let u : i.v < count (alternatives_of fs) = omega (arith, size, indexed.below) in
       rw v (pick_wrote fs i.v x (T i.p.next) T m i.p Y r Z u (h o l)))
 
+-- where the index is refused, the choice is
+pub choice_off : (b : ℕ → ℕ) (W : List ℕ) (m : ℕ) (x : Ctx) (t n : ℕ) (fs : Alts) (p : Stand) (i : Indexed) (X Y : List ℕ) → count (alternatives_of fs) ≡ n → Indexes t x.0 n b W m p X i Y → i.p.off ≡ true → (Z : List ℕ) → Part (choice t fs) x b W m p X refused Z
+choice_off b W m x t n fs p i X Y size indexed o Z = picked b W m x t n fs p i refused X Y Z size indexed (λ _. refl) (λ z. absurd (false≢true (sym z ∙ o)))
+
 ---------------------------------------------------------------- each kind
 
-module _ (F : ℕ → Fmt) (S : ℕ → Bool) (N down up : List ℕ) (n : Node) (x y : ℕ) (s : ℕ → ℕ) (W : List ℕ) (m : ℕ) (p : Pen) (X : List ℕ) (l : Led) (Y : List ℕ) where
+module _ (F : ℕ → Fmt) (S : ℕ → Bool) (N down up : List ℕ) (n : Node) (x y : ℕ) (s : ℕ → ℕ) (W : List ℕ) (m : ℕ) (p : Stand) (X : List ℕ) (l : Led) (Y : List ℕ) where
   abbrev sure : Type 0
   sure = sure_of F S N n.kind n.a n.b n.c n.d n.e ≡ true
 
   abbrev here : Fmt
   here = format_of F N down up n.kind n.a n.b n.c n.d n.e
 
-  leads_as : (f : Fmt) → here ≡ f → ((r : Pen) (Z : List ℕ) → Part (F l.k) (l.x, y) s W m l.p Y r Z → Part f (x, y) s W m p X r Z) → S l.k ≡ true → Leads F S N down up n x y s W m p X l Y
+  leads_as : (f : Fmt) → here ≡ f → ((r : Stand) (Z : List ℕ) → Part (F l.k) (l.x, y) s W m l.p Y r Z → Part f (x, y) s W m p X r Z) → S l.k ≡ true → Leads F S N down up n x y s W m p X l Y
   leads_as f e g k = record { goes = λ r Z h. part_as here f (x, y) s W m p X r Z e (g r Z h); sure = k }
 
   pub leads_noted : n.kind ≡ 8 → sure → l.k ≡ n.d → l.x ≡ x → Y ≡ X → Writes (λ _. []) (λ R. peel (plain n.a x n.b n.c ∷ []) zero R) (λ i. items s W m i) m p X l.p X → Leads F S N down up n x y s W m p X l Y
@@ -167,7 +176,7 @@ module _ (F : ℕ → Fmt) (S : ℕ → Bool) (N down up : List ℕ) (n : Node) 
 
 ---------------------------------------------------------------- lent alternatives
 
-module _ (F : ℕ → Fmt) (tag k : ℕ) (table : List ℕ) (x y : ℕ) (s : ℕ → ℕ) (W : List ℕ) (m : ℕ) (p : Pen) (X : List ℕ) (l : Led) (Y : List ℕ) (i : Indexed) (indexed : Indexes tag x (length table) s W m p X i Y) where
+module _ (F : ℕ → Fmt) (tag k : ℕ) (table : List ℕ) (x y : ℕ) (s : ℕ → ℕ) (W : List ℕ) (m : ℕ) (p : Stand) (X : List ℕ) (l : Led) (Y : List ℕ) (i : Indexed) (indexed : Indexes tag x (length table) s W m p X i Y) where
   abbrev byte : ℕ
   byte = get_or table i.v 0
 
@@ -189,14 +198,14 @@ module _ (F : ℕ → Fmt) (tag k : ℕ) (table : List ℕ) (x y : ℕ) (s : ℕ
   lent_none h u v o =
       let e : nth (lent_alternatives F k table) i.v ≡ argument no_reader = nth_lent F k table i.v indexed.below ∙ rw (lt-leb byte 16 h) in
       record {
-        goes = λ r Z c. picked s W m (x, y) tag (length table) (lent_alternatives F k table) p i r X Y Z (count-lent F k table) indexed (λ _. c.still o) (λ q j. rw e (refused r Z (c.still o)));
+        goes = λ r Z c. picked s W m (x, y) tag (length table) (lent_alternatives F k table) p i r X Y Z (count-lent F k table) indexed (λ _. c.still o) (λ q j. rw e (off r Z (c.still o)));
         same = v;
         from = omega (arith, u);
         to = omega (arith, u);
       }
     where
-      refused : (r : Pen) (Z : List ℕ) → r.off ≡ true → Wrote (λ v. encode (type_of (argument no_reader)) v) (λ j. items s W m j) m i.p Y r Z (parse (argument no_reader) (x, y) (items s W m i.p.next))
-      refused r Z h = h
+      off : (r : Stand) (Z : List ℕ) → r.off ≡ true → Wrote (λ v. encode (type_of (argument no_reader)) v) (λ j. items s W m j) m i.p Y r Z (parse (argument no_reader) (x, y) (items s W m i.p.next))
+      off r Z h = h
 
 pub lent-down : (down up : List ℕ) (c : ℕ) → c ≡ 0 → down ≡ lent_table down up c
 unfolding lent_table
@@ -206,3 +215,34 @@ pub lent-up : (down up : List ℕ) (c : ℕ) → (c ≡ 0 → ⊥) → up ≡ le
 unfolding lent_table
 lent-up down up zero h = absurd (h refl)
 lent-up down up (suc n) h = refl
+
+---------------------------------------------------------------- refusals
+
+module _ (F : ℕ → Fmt) (S : ℕ → Bool) (N down up : List ℕ) (n : Node) (x y : ℕ) (s : ℕ → ℕ) (W : List ℕ) (m : ℕ) (p : Stand) (X : List ℕ) (l : Led) (Y : List ℕ) where
+  -- no part is written behind a refusal
+  pub leads_off : Leads F S N down up n x y s W m p X l Y → l.p.off ≡ true → (Z : List ℕ) → Part (format_of F N down up n.kind n.a n.b n.c n.d n.e) (x, y) s W m p X refused Z
+  leads_off a o Z = a.goes refused Z (writes_still _ _ _ _ _ _ _ _ o refl)
+
+module _ (F : ℕ → Fmt) (tag k : ℕ) (table : List ℕ) (x y : ℕ) (s : ℕ → ℕ) (W : List ℕ) (m : ℕ) (p : Stand) (X : List ℕ) (l : Led) (Y : List ℕ) where
+  pub lent_off : LeadsLent F tag k table x y s W m p X l Y → l.p.off ≡ true → (Z : List ℕ) → Part (choice tag (lent_alternatives F k table)) (x, y) s W m p X refused Z
+  lent_off a o Z = a.goes refused Z (writes_still _ _ _ _ _ _ _ _ o refl)
+
+module _ (F : ℕ → Fmt) (S : ℕ → Bool) (N down up : List ℕ) (n : Node) (x y : ℕ) (s : ℕ → ℕ) (W : List ℕ) (m : ℕ) (p : Stand) (X Y : List ℕ) where
+  -- where the step is that of a lent table
+  pub lent_leads : n.kind ≡ 15 → sure_of F S N n.kind n.a n.b n.c n.d n.e ≡ true → (table : List ℕ) → table ≡ lent_table down up n.c → (r : Result (Written Below) Refused) → LentTo F n.a n.b table x y s W m p X r Y → LeadsTo F S N down up n x y s W m p X r Y
+  unfolding format_of
+  lent_leads k h table e (Ok w) a = leads_lent F S N down up n x y s W m p X (led w) Y k h table e a
+  lent_leads k h table e (Err _) a = λ Z. part_as (format_of F N down up n.kind n.a n.b n.c n.d n.e) (choice n.a (lent_alternatives F n.b table)) (x, y) s W m p X refused Z (rw (k, e)) (a Z)
+
+-- a lent table's index that is refused
+pub lent_lost : (F : ℕ → Fmt) (tag k : ℕ) (table : List ℕ) (x y : ℕ) (s : ℕ → ℕ) (W : List ℕ) (m : ℕ) (p : Stand) (X Y : List ℕ) (i : Indexed) → Indexes tag x (length table) s W m p X i Y → i.p.off ≡ true → (Z : List ℕ) → Part (choice tag (lent_alternatives F k table)) (x, y) s W m p X refused Z
+lent_lost F tag k table x y s W m p X Y i a o Z = choice_off s W m (x, y) tag (length table) (lent_alternatives F k table) p i X Y (count-lent F k table) a o Z
+
+-- an error is the refusal of the node
+pub led_off : (F : ℕ → Fmt) (S : ℕ → Bool) (N down up : List ℕ) (n : Node) (x y : ℕ) (s : ℕ → ℕ) (W : List ℕ) (m : ℕ) (p : Stand) (X Y : List ℕ) (Q : Refused → Type 0) (r : Result (Written Below) Refused) → IsErrAnd r Q
+    → ((Z : List ℕ) → Part (format_of F N down up n.kind n.a n.b n.c n.d n.e) (x, y) s W m p X refused Z) → LeadsTo F S N down up n x y s W m p X r Y
+led_off F S N down up n x y s W m p X Y Q r k a = let z = err_from_is_err_and r k in rw z.1 a
+
+pub lent_err : (F : ℕ → Fmt) (tag k : ℕ) (table : List ℕ) (x y : ℕ) (s : ℕ → ℕ) (W : List ℕ) (m : ℕ) (p : Stand) (X Y : List ℕ) (Q : Refused → Type 0) (r : Result (Written Below) Refused) → IsErrAnd r Q
+    → ((Z : List ℕ) → Part (choice tag (lent_alternatives F k table)) (x, y) s W m p X refused Z) → LentTo F tag k table x y s W m p X r Y
+lent_err F tag k table x y s W m p X Y Q r e a = let z = err_from_is_err_and r e in rw z.1 a

@@ -18,13 +18,15 @@ use Rattle.record_lists.proofs.Forth.{numbers-same}
 use Rattle.node_tables.specs.declared.Node.{Node}
 use Rattle.node_tables.specs.Nodes.{member_of}
 use Rattle.node_tables.specs.Sure.{sure_member}
+use Rattle.std.specs.Prelude.{None}
 use Rattle.pens.specs.declared.Pen.{Pen}
+use Rattle.pens.specs.Stand.{Stand, before}
 use Rattle.pens.specs.Rest.{items}
 use Rattle.pens.specs.Writes.{limit, Part, Members}
 use Rattle.pens.proofs.RestLaws.{items-drop}
 use Rattle.pens.proofs.MemberLaws.{members_must, members_some, members_none, members_noted, members_unnoted, members_unread}
-use Rattle.write_steps.specs.declared.meet.Met.{Met}
-use Rattle.write_steps.specs.Steps.{Meets}
+use Rattle.write_steps.specs.Steps.{Met, met, Meets}
+use Rattle.write_steps.specs.declared.meet.Met.{Met as MetMember}
 
 -- no item has a tag of none
 opens-none : (R : List Item) → opens [] R ≡ false
@@ -71,16 +73,16 @@ module _ (F : ℕ → Fmt) (S : ℕ → Bool) (a b c d : ℕ) where
 
 ---------------------------------------------------------------- what is met
 
-module _ (F : ℕ → Fmt) (S : ℕ → Bool) (fs : Flds) (n : Node) (x y : ℕ) (s : ℕ → ℕ) (W : List ℕ) (m flag : ℕ) (p : Pen) (X Y : List ℕ) where
+module _ (F : ℕ → Fmt) (S : ℕ → Bool) (fs : Flds) (n : Node) (x y : ℕ) (s : ℕ → ℕ) (W : List ℕ) (m flag : ℕ) (p : Stand) (X Y : List ℕ) where
   -- a presence bit
   put_one : (v : ℕ) → (flag ≤ limit → Y ≡ set_bits X flag (bits_of 1 v)) → flag ≤ limit → Y ≡ set_bit X flag v
   put_one v h l = h l ∙ set_bits-one X flag v
 
-  there : (k fl : ℕ) → S k ≡ true → ((q r : Pen) (U Z : List ℕ) → Part (F k) (x, y) s W m p Y q U → Members fl fs (x, y) s W m q U r Z → Members flag (member_of F fs n.kind n.a n.b n.c n.d) (x, y) s W m p X r Z)
+  there : (k fl : ℕ) → S k ≡ true → ((q r : Stand) (U Z : List ℕ) → Part (F k) (x, y) s W m p Y q U → Members fl fs (x, y) s W m q U r Z → Members flag (member_of F fs n.kind n.a n.b n.c n.d) (x, y) s W m p X r Z)
       → Meets F S fs n x y s W m flag p X (record { there = true; k = k; flag = fl; p = p }) Y
   there k fl h g = record { with = λ _. g; without = λ z. absurd (false≢true (sym z)); sure = λ _. h }
 
-  not_there : (t : Met) (q : Pen) → t ≡ record { there = false; k = 0; flag = flag + 1; p = q } → ((r : Pen) (Z : List ℕ) → Members (flag + 1) fs (x, y) s W m q Y r Z → Members flag (member_of F fs n.kind n.a n.b n.c n.d) (x, y) s W m p X r Z)
+  not_there : (t : Met) (q : Stand) → t ≡ record { there = false; k = 0; flag = flag + 1; p = q } → ((r : Stand) (Z : List ℕ) → Members (flag + 1) fs (x, y) s W m q Y r Z → Members flag (member_of F fs n.kind n.a n.b n.c n.d) (x, y) s W m p X r Z)
       → Meets F S fs n x y s W m flag p X t Y
   not_there t q e g = rw e (record { with = λ z. absurd (false≢true z); without = λ _. g; sure = λ z. absurd (false≢true z) })
 
@@ -112,7 +114,7 @@ module _ (F : ℕ → Fmt) (S : ℕ → Bool) (fs : Flds) (n : Node) (x y : ℕ)
       → t ≡ record { there = false; k = 0; flag = flag + 1; p = record { next = p.next + 1; at = p.at; off = p.off } } → Meets F S fs n x y s W m flag p X t Y
   unfolding member_of
   meets-noted t k o l b z =
-      let q : Pen = record { next = p.next + 1; at = p.at; off = p.off } in
+      let q : Stand = record { next = p.next + 1; at = p.at; off = p.off } in
       not_there t q z λ r Z v. rw k (members_noted s W m (x, y) flag p q r X Y Y Z n.a n.b n.c (F n.d) fs o (put_one 0 b) refl refl (λ _ _. (omega (arith, l), items-drop s W m p.next l)) v)
 
   pub meets_unnoted : n.kind ≡ 3 → sure_member F S n.kind n.a n.b n.c n.d ≡ true → begins (plain n.a x n.b n.c) (items s W m p.next) ≡ false → (flag ≤ limit → Y ≡ set_bits X flag (bits_of 1 1))
@@ -127,12 +129,16 @@ module _ (F : ℕ → Fmt) (S : ℕ → Bool) (fs : Flds) (n : Node) (x y : ℕ)
   meets-unread t k b z = not_there t p z λ r Z v. rw k (members_unread s W m (x, y) flag p p r X Y Y Z n.a fs (put_one 0 b) v)
 
 -- one that stands always: no bit is put
-pub meets_always : (F : ℕ → Fmt) (S : ℕ → Bool) (fs : Flds) (n : Node) (x y : ℕ) (s : ℕ → ℕ) (W : List ℕ) (m flag : ℕ) (p : Pen) (X : List ℕ)
+pub meets_always : (F : ℕ → Fmt) (S : ℕ → Bool) (fs : Flds) (n : Node) (x y : ℕ) (s : ℕ → ℕ) (W : List ℕ) (m flag : ℕ) (p : Stand) (X : List ℕ)
     → (n.kind ≡ 1 → ⊥) → (n.kind ≡ 2 → ⊥) → (n.kind ≡ 3 → ⊥) → (n.kind ≡ 4 → ⊥) → sure_member F S n.kind n.a n.b n.c n.d ≡ true
     → Meets F S fs n x y s W m flag p X (record { there = true; k = n.a; flag = flag; p = p }) X
 meets_always F S fs n x y s W m flag p X h i j k e =
     there F S fs n x y s W m flag p X X n.a flag (sym (sure_always F S n.a n.b n.c n.d n.kind h i j k) ∙ e)
     λ q r U Z u v. rw (member_always F S n.a n.b n.c n.d fs n.kind h i j k) (members_must s W m (x, y) flag p q r X X U Z (F n.a) fs u v)
 
-pub flag_next : (fl : ℕ) {t : Met} {q : Pen} → t ≡ record { there = false; k = 0; flag = fl + 1; p = q } → t.flag ≤ fl + 1
+-- a member that is not there, as it is answered
+pub met_absent : (fl : ℕ) {t : MetMember} {q : Pen} → t ≡ record { part = None; flag = fl; pen = q } → met t ≡ record { there = false; k = 0; flag = fl; p = before q }
+met_absent fl e = rw e refl
+
+pub flag_next : (fl : ℕ) {t : MetMember} {q : Pen} → t ≡ record { part = None; flag = fl + 1; pen = q } → t.flag ≤ fl + 1
 flag_next fl e = rw e (omega arith)

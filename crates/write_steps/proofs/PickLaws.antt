@@ -16,7 +16,7 @@ use Rattle.atn.specs.Reading.{Ctx}
 use Rattle.record_lists.specs.Items.{Item, plain}
 use Rattle.record_lists.specs.Parse.{Got, no, got, value_of, leaf, keep, feed, turn, parse, parse_pick}
 use Rattle.node_tables.specs.Nodes.{lent_alternatives}
-use Rattle.pens.specs.declared.Pen.{Pen}
+use Rattle.pens.specs.Stand.{Stand}
 use Rattle.pens.specs.Writes.{Wrote}
 use Rattle.write_leaves.specs.Index.{index_of}
 
@@ -25,14 +25,14 @@ nth none_left i = no_reader
 nth (f ∥ fs) zero = f
 nth (f ∥ fs) (suc i) = nth fs i
 
-turn_wrote : {A B : Type 0} (enc : A → List ℕ) (enc' : B → List ℕ) (h : A → B) → ((a : A) → enc' (h a) ≡ enc a) → (T : ℕ → List Item) (m : ℕ) (q : Pen) (Y : List ℕ) (r : Pen) (Z : List ℕ) (g : Got A)
+turn_wrote : {A B : Type 0} (enc : A → List ℕ) (enc' : B → List ℕ) (h : A → B) → ((a : A) → enc' (h a) ≡ enc a) → (T : ℕ → List Item) (m : ℕ) (q : Stand) (Y : List ℕ) (r : Stand) (Z : List ℕ) (g : Got A)
     → Wrote enc T m q Y r Z g → Wrote enc' T m q Y r Z (turn h g)
 unfolding turn
 turn_wrote enc enc' h e T m q Y r Z no w = w
 turn_wrote enc enc' h e T m q Y r Z (got v S) w = record { on = w.on; left = w.left; fits = w.fits; wrote = λ l. rw (e v) (w.wrote (rw (e v) at l)) }
 
 -- who writes the alternative has written the pick
-pub pick_wrote : (fs : Alts) (i : ℕ) (x : Ctx) (R : List Item) (T : ℕ → List Item) (m : ℕ) (q : Pen) (Y : List ℕ) (r : Pen) (Z : List ℕ) → i < count (alternatives_of fs)
+pub pick_wrote : (fs : Alts) (i : ℕ) (x : Ctx) (R : List Item) (T : ℕ → List Item) (m : ℕ) (q : Stand) (Y : List ℕ) (r : Stand) (Z : List ℕ) → i < count (alternatives_of fs)
     → Wrote (λ v. encode (type_of (nth fs i)) v) T m q Y r Z (parse (nth fs i) x R) → Wrote (λ c. encode_pick (alternatives_of fs) c) T m q Y r Z (parse_pick fs i x R)
 unfolding nth parse_pick count encode_pick
 pick_wrote none_left i x R T m q Y r Z l w = absurd (omega arith)

@@ -3,24 +3,24 @@ ghost use Rattle.std.specs.Prelude.{◌≡◌, Bool, false, true, List, ℕ, ◌
 ghost use Rattle.atn.specs.Format.{Fmt, Flds};
 ghost use Rattle.record_lists.specs.Kinds.{span_tag};
 ghost use Rattle.node_tables.specs.Sure.{sure_member};
-ghost use Rattle.write_steps.specs.Steps.{Meets};
+ghost use Rattle.pens.specs.Stand.{before};
+ghost use Rattle.write_steps.specs.Steps.{Meets, met};
 
 use node_tables::Node;
 use pens::places::put_at;
-use pens::{Pen, is_record, is_tagged};
+use pens::{Pen, Records, is_record, is_tagged};
 
-// Whether the member is there, its node, the place of the next presence bit, and the pen.
+// The node of the member, where it is there, the place of the next presence bit, and the pen.
 #[derive(Clone, Copy)]
 pub struct Met {
-    pub there: bool,
-    pub k: usize,
+    pub part: Option<usize>,
     pub flag: usize,
-    pub p: Pen,
+    pub pen: Pen,
 }
 
-pub fn meet(words: &[u64], m: usize, out: &mut [u8], node: Node, x: u64, flag: usize, p: Pen) -> Met
-    requires { (m * 5 ≤ length words.now) × (m < 2 ^ 32) × (flag < 2 ^ 40) × (node.kind ≡ 3 → span_tag node.a ≡ false) }
-    ensures { ((F : ℕ → Fmt) (S : ℕ → Bool) (fs : Flds) (y : ℕ) (s : ℕ → ℕ) → sure_member F S node.kind node.a node.b node.c node.d ≡ true → Meets F S fs node x y s words.now m flag p out.old result out.new) × (result.flag ≤ flag + 1) }
+pub fn meet(records: Records, out: &mut [u8], node: Node, x: u64, flag: usize, p: Pen) -> Met
+    requires { (flag < 2 ^ 40) × (node.kind ≡ 3 → span_tag node.a ≡ false) }
+    ensures { ((F : ℕ → Fmt) (S : ℕ → Bool) (fs : Flds) (y : ℕ) (s : ℕ → ℕ) → sure_member F S node.kind node.a node.b node.c node.d ≡ true → Meets F S fs node x y s records.entry.words.now records.entry.len flag (before p) out.old (met result) out.new) × (result.flag ≤ flag + 1) }
 {
     let kind = node.kind;
     let a = node.a;
@@ -29,34 +29,31 @@ pub fn meet(words: &[u64], m: usize, out: &mut [u8], node: Node, x: u64, flag: u
     let d = node.d;
     let i = p.next;
     if kind == 1 {
-        if is_tagged(words, m, i, b) {
+        if is_tagged(records, i, b) {
             put_at(out, flag, 1, 1);
             return Met {
-                there: true,
-                k: a as usize,
+                part: Some(a as usize),
                 flag: flag + 1,
-                p: p,
+                pen: p,
             };
         }
         put_at(out, flag, 1, 0);
         return absent(flag, p);
     }
     if kind == 3 {
-        if is_record(words, m, i, a, x, b, c) {
+        if is_record(records, i, a, x, b, c) {
             put_at(out, flag, 1, 0);
             let q = Pen {
                 next: i + 1,
                 at: p.at,
-                off: p.off,
             };
             return absent(flag, q);
         }
         put_at(out, flag, 1, 1);
         return Met {
-            there: true,
-            k: d as usize,
+            part: Some(d as usize),
             flag: flag + 1,
-            p: p,
+            pen: p,
         };
     }
     if kind == 2 {
@@ -68,21 +65,19 @@ pub fn meet(words: &[u64], m: usize, out: &mut [u8], node: Node, x: u64, flag: u
         return absent(flag, p);
     }
     Met {
-        there: true,
-        k: a as usize,
+        part: Some(a as usize),
         flag: flag,
-        p: p,
+        pen: p,
     }
 }
 
 fn absent(flag: usize, p: Pen) -> Met
     requires { flag < 2 ^ 40 }
-    ensures { result ≡ record { there = false; k = 0; flag = flag + 1; p = p } }
+    ensures { result ≡ record { part = None; flag = flag + 1; pen = p } }
 {
     Met {
-        there: false,
-        k: 0,
+        part: None,
         flag: flag + 1,
-        p: p,
+        pen: p,
     }
 }
