@@ -19,7 +19,7 @@ use Rattle.node_tables.specs.declared.Node.{Node}
 use Rattle.node_tables.specs.Nodes.{node_word, member_of, members_from, format_of, format_at}
 use Rattle.node_tables.specs.Row.{IsNode}
 use Rattle.node_tables.specs.Sure.{sure_member, sure_members, sure_each, sure_of, sure_at}
-use Rattle.pens.specs.declared.Pen.{Pen}
+use Rattle.pens.specs.Stand.{Stand}
 use Rattle.pens.specs.Writes.{limit, Part}
 use Rattle.write_leaves.specs.Lent.{SureLeaf}
 use Rattle.write_steps.specs.Steps.{Above}
@@ -169,7 +169,7 @@ module _ (G : ℕ → Fmt) (N down up : List ℕ) (a b c d e : ℕ) (kind : ℕ)
   inner_format q = rw q
 
   -- the others have no values
-  pub hollow_part : (x : Ctx) (s : ℕ → ℕ) (W : List ℕ) (m : ℕ) (p : Pen) (X : List ℕ) (q : Pen) (Y : List ℕ) → 19 < kind → q.off ≡ true → Part (format_of G N down up kind a b c d e) x s W m p X q Y
+  pub hollow_part : (x : Ctx) (s : ℕ → ℕ) (W : List ℕ) (m : ℕ) (p : Stand) (X : List ℕ) (q : Stand) (Y : List ℕ) → 19 < kind → q.off ≡ true → Part (format_of G N down up kind a b c d e) x s W m p X q Y
   unfolding format_of parse
   hollow_part x s W m p X q Y l h = let i : kind ≡ upward (kind - 20) = omega arith in rw i (go (kind - 20))
     where
@@ -181,7 +181,7 @@ module _ (G : ℕ → Fmt) (N down up : List ℕ) (a b c d e : ℕ) (kind : ℕ)
       go (suc (suc (suc (suc zero)))) = record { still = λ _. h; goes = λ _ _. h }
       go (suc (suc (suc (suc (suc j))))) = record { still = λ _. h; goes = λ _ _. h }
 
-pub loose_as_seq : (fs : Flds) (x : Ctx) (s : ℕ → ℕ) (W : List ℕ) (m : ℕ) (p : Pen) (X : List ℕ) (q : Pen) (Y : List ℕ) → Part (seq fs) x s W m p X q Y → Part (loose fs) x s W m p X q Y
+pub loose_as_seq : (fs : Flds) (x : Ctx) (s : ℕ → ℕ) (W : List ℕ) (m : ℕ) (p : Stand) (X : List ℕ) (q : Stand) (Y : List ℕ) → Part (seq fs) x s W m p X q Y → Part (loose fs) x s W m p X q Y
 unfolding parse
 loose_as_seq fs x s W m p X q Y h = h
 

@@ -18,7 +18,7 @@ use Rattle.record_lists.proofs.Forth.{numbers-same}
 use Rattle.node_tables.specs.declared.Node.{Node}
 use Rattle.node_tables.specs.Nodes.{member_of}
 use Rattle.node_tables.specs.Sure.{sure_member}
-use Rattle.std.specs.Prelude.{None}
+use Rattle.std.specs.Prelude.{Some, None}
 use Rattle.pens.specs.declared.Pen.{Pen}
 use Rattle.pens.specs.Stand.{Stand, before}
 use Rattle.pens.specs.Rest.{items}
@@ -142,3 +142,10 @@ met_absent fl e = rw e refl
 
 pub flag_next : (fl : ℕ) {t : MetMember} {q : Pen} → t ≡ record { part = None; flag = fl + 1; pen = q } → t.flag ≤ fl + 1
 flag_next fl e = rw e (omega arith)
+
+-- a member by whether it is there
+pub met_some : {t : MetMember} {k : ℕ} → t.part ≡ Some k → met t ≡ record { there = true; k = k; flag = t.flag; p = before t.pen }
+met_some e = rw e refl
+
+pub met_none : {t : MetMember} → t.part ≡ None → met t ≡ record { there = false; k = 0; flag = t.flag; p = before t.pen }
+met_none e = rw e refl
