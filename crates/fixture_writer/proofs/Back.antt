@@ -8,7 +8,7 @@ use Rattle.record_lists.specs.Message.{bytes_of, write_message}
 use Rattle.message_nodes.proofs.Bounds.{few_bits}
 use Rattle.fixture_promises.proofs.RoundTrip.{ReadBack, written_read}
 use Rattle.fixture_promises.proofs.Entered.{Returned, pdus_returned, cm_returned, acse_returned}
-use Rattle.fixture_writer.specs.declared.Written.TheVariants.{Wrote}
+use Rattle.std.specs.Prelude.{Ok}
 use Rattle.fixture_writer.specs.Says.{answer_of, Says}
 use Rattle.fixture_writer.specs.GivenBack.{filled, GivenBack}
 
@@ -19,21 +19,21 @@ module _ {k d : ℕ} {down up W s out : List ℕ} {n : ℕ} {out' : List ℕ} (x
 
 module _ (d : ℕ) (down up W s out : List ℕ) {n : ℕ} {out' : List ℕ} where
   -- a CPDLC message, in its direction and with its tables
-  pub pdus_back : Says (Wrote n) out' (write_message 0 d down up W s out) → GivenBack W s (filled n out') n (λ w. parse_pdus (filled n out') d down up w)
+  pub pdus_back : Says (Ok n) out' (write_message 0 d down up W s out) → GivenBack W s (filled n out') n (λ w. parse_pdus (filled n out') d down up w)
   unfolding answer_of
   pdus_back h =
       let x = written_read 0 d down up W s out (sym h) in
       back x (λ t w. parse_pdus t d down up w) (λ w r. pdus_returned x (few_bits 0 d down up x.kind) w r refl)
 
   -- a Context Management message, in its direction
-  pub cm_back : Says (Wrote n) out' (write_message 1 d down up W s out) → GivenBack W s (filled n out') n (λ w. parse_cm (filled n out') d w)
+  pub cm_back : Says (Ok n) out' (write_message 1 d down up W s out) → GivenBack W s (filled n out') n (λ w. parse_cm (filled n out') d w)
   unfolding answer_of
   cm_back h =
       let x = written_read 1 d down up W s out (sym h) in
       back x (λ t w. parse_cm t d w) (λ w r. cm_returned x (few_bits 1 d down up x.kind) w r refl)
 
   -- an association control message, whatever the direction
-  pub acse_back : Says (Wrote n) out' (write_message 2 d down up W s out) → GivenBack W s (filled n out') n (λ w. parse_acse_apdu (filled n out') w)
+  pub acse_back : Says (Ok n) out' (write_message 2 d down up W s out) → GivenBack W s (filled n out') n (λ w. parse_acse_apdu (filled n out') w)
   unfolding answer_of
   acse_back h =
       let x = written_read 2 d down up W s out (sym h) in

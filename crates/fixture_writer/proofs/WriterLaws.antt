@@ -31,18 +31,17 @@ use Rattle.message_nodes.proofs.Sure.{sure}
 use Rattle.message_nodes.proofs.Bounds.{few_bits, few-nodes}
 use Rattle.node_tables.specs.Nodes.{format_at}
 use Rattle.node_tables.specs.Sure.{sure_at}
-use Rattle.write_leaves.specs.Lent.{Lent}
-use Rattle.write_nodes.specs.Ready.{Ready}
 use Rattle.atn.proofs.Inverse.{both}
-use Rattle.pens.specs.declared.Pen.{Pen}
+use Rattle.pens.specs.Stand.{Stand}
 use Rattle.pens.specs.Rest.{rest, items}
 use Rattle.pens.specs.Writes.{limit, Took, Wrote, Part}
 use Rattle.pens.proofs.RestLaws.{items-end, items-cons}
 use Rattle.fixture_promises.proofs.BitsBelow.{encode_below}
 use Rattle.fixture_promises.proofs.Bytes.{bytes-put}
-use Rattle.fixture_writer.specs.declared.Written.{Written}
-use Rattle.fixture_writer.specs.declared.Written.TheVariants.{Wrote as Done}
-use Rattle.fixture_writer.specs.Says.{front, refused_of, answer_of, Says}
+use Rattle.std.specs.Prelude.{Result, Ok, Err}
+use Rattle.fixture_writer.specs.declared.Refusal.{Refusal}
+use Rattle.fixture_writer.specs.declared.Refusal.TheVariants.{TablesUnfit, NoDirection, NoMessage, TooFewBytes}
+use Rattle.fixture_writer.specs.Says.{front, answer_of, Says}
 
 ---------------------------------------------------------------- refusals before the list
 
@@ -50,11 +49,11 @@ module _ (k d : ℕ) (down up W s X : List ℕ) where
   abbrev all : message.Written × List ℕ
   all = write_message k d down up W s X
 
-  pub says_2 : (r : Written) (t : Bool) → t ≡ (table_fits down && table_fits up) → t ≡ false → r ≡ refused_of 2 0 → Says r X all
+  pub says_2 : (r : Result ℕ Refusal) (t : Bool) → t ≡ (table_fits down && table_fits up) → t ≡ false → r ≡ Err TablesUnfit → Says r X all
   unfolding write_message answer_of
   says_2 r t e h q = rw (q, sym e ∙ h)
 
-  pub says_3 : (r : Written) (t : Bool) → t ≡ (table_fits down && table_fits up) → t ≡ true → 1 < d → r ≡ refused_of 3 0 → Says r X all
+  pub says_3 : (r : Result ℕ Refusal) (t : Bool) → t ≡ (table_fits down && table_fits up) → t ≡ true → 1 < d → r ≡ Err NoDirection → Says r X all
   unfolding write_message answer_of direction_fits
   says_3 r t e h l q = rw (q, sym e ∙ h, lt-leb d 1 l)
 
@@ -82,11 +81,11 @@ module _ (k d : ℕ) (down up W s X : List ℕ) where
 
   module _ (t : Bool) (te : t ≡ (table_fits down && table_fits up)) (th : t ≡ true) (dl : d ≤ 1) where
     -- no bits: refused with 8
-    nothing_8 : (r : Written) → bits_of_message (kind_of k d down up) W s ≡ none → r ≡ refused_of 8 0 → Says r X all
+    nothing_8 : (r : Result ℕ Refusal) → bits_of_message (kind_of k d down up) W s ≡ none → r ≡ Err NoMessage → Says r X all
     unfolding settled answer_of
     nothing_8 r h q = rw q (sym (past t te th dl ∙ rw h))
 
-    pub says_8_kind : (r : Written) → 2 < k → r ≡ refused_of 8 0 → Says r X all
+    pub says_8_kind : (r : Result ℕ Refusal) → 2 < k → r ≡ Err NoMessage → Says r X all
     unfolding bits_of_message
     says_8_kind r h q = nothing_8 r (rw (no_kind h)) q
 
@@ -94,11 +93,11 @@ module _ (k d : ℕ) (down up W s X : List ℕ) where
     unfolding bits_of_message
     no_fit h l = let f = a_kind k h in rw (f.1, l)
 
-    pub says_8_fives : (r : Written) → k ≤ 2 → (length W % 5 ≡ 0 → ⊥) → r ≡ refused_of 8 0 → Says r X all
+    pub says_8_fives : (r : Result ℕ Refusal) → k ≤ 2 → (length W % 5 ≡ 0 → ⊥) → r ≡ Err NoMessage → Says r X all
     unfolding list_fits
     says_8_fives r h n q = nothing_8 r (no_fit h (rw (ne_eqb (length W % 5) 0 n))) q
 
-    pub says_8_many : (r : Written) → k ≤ 2 → 4294967296 ≤ length W / 5 → r ≡ refused_of 8 0 → Says r X all
+    pub says_8_many : (r : Result ℕ Refusal) → k ≤ 2 → 4294967296 ≤ length W / 5 → r ≡ Err NoMessage → Says r X all
     unfolding list_fits
     says_8_many r h n q = nothing_8 r (no_fit h (rw (le-ltb (length W / 5) 4294967296 n) (off (eqb (length W % 5) 0)))) q
       where
@@ -106,7 +105,7 @@ module _ (k d : ℕ) (down up W s X : List ℕ) where
         off true = refl
         off false = refl
 
-    pub says_8_bytes : (r : Written) → k ≤ 2 → 72057594037927936 ≤ length s → r ≡ refused_of 8 0 → Says r X all
+    pub says_8_bytes : (r : Result ℕ Refusal) → k ≤ 2 → 72057594037927936 ≤ length s → r ≡ Err NoMessage → Says r X all
     unfolding list_fits
     says_8_bytes r h n q = nothing_8 r (no_fit h (rw (le-ltb (length s) 72057594037927936 n) (off (eqb (length W % 5) 0 && ltb (length W / 5) 4294967296)))) q
       where
@@ -137,14 +136,14 @@ module _ (k d : ℕ) (down up W s X : List ℕ) where
       unfolding bits_of_message write items
       bits_are b e = rw (kind-of, fits, e, records)
 
-      pub says_8_span : (r : Written) (b : Bool) → b ≡ inside span_tag (length s * 8) (rest W m 0) → b ≡ false → r ≡ refused_of 8 0 → Says r X all
+      pub says_8_span : (r : Result ℕ Refusal) (b : Bool) → b ≡ inside span_tag (length s * 8) (rest W m 0) → b ≡ false → r ≡ Err NoMessage → Says r X all
       says_8_span r b e h q = nothing_8 r (bits_are b e ∙ rw h) q
 
-      module _ (b : Bool) (be : b ≡ inside span_tag (length s * 8) (rest W m 0)) (bt : b ≡ true) (p : Pen) (V₀ V₁ : List ℕ) (run : Part f (0, 0) (bit_of s) W m front V₀ p V₁) where
+      module _ (b : Bool) (be : b ≡ inside span_tag (length s * 8) (rest W m 0)) (bt : b ≡ true) (p : Stand) (V₀ V₁ : List ℕ) (run : Part f (0, 0) (bit_of s) W m front V₀ p V₁) where
         got_it : Wrote (λ v. encode (type_of f) v) (λ i. items (bit_of s) W m i) m front V₀ p V₁ (parse f (0, 0) list)
         got_it = run.goes refl (omega arith)
 
-        pub says_8_off : (r : Written) → p.off ≡ true → r ≡ refused_of 8 0 → Says r X all
+        pub says_8_off : (r : Result ℕ Refusal) → p.off ≡ true → r ≡ Err NoMessage → Says r X all
         unfolding encoded
         says_8_off r h q = nothing_8 r (bits_are b be ∙ rw bt (go (parse f (0, 0) list) got_it)) q
           where
@@ -152,7 +151,7 @@ module _ (k d : ℕ) (down up W s X : List ℕ) where
             go no w = refl
             go (got v S) w = absurd (false≢true (sym w.on ∙ h))
 
-        pub says_8_left : (r : Written) → p.off ≡ false → p.next < m → r ≡ refused_of 8 0 → Says r X all
+        pub says_8_left : (r : Result ℕ Refusal) → p.off ≡ false → p.next < m → r ≡ Err NoMessage → Says r X all
         unfolding encoded
         says_8_left r h l q = nothing_8 r (bits_are b be ∙ rw bt (go (parse f (0, 0) list) got_it)) q
           where
@@ -196,15 +195,15 @@ module _ (k d : ℕ) (down up W s X : List ℕ) where
         pub small-run : p.off ≡ false → m ≤ p.next → p.at ≤ 65536
         small-run h l = let w = whole h l in omega (arith, w.long, w.short)
 
-        pub says_9 : (r : Written) (n : ℕ) → p.off ≡ false → m ≤ p.next → n ≡ p.at / 8 + (p.at % 8 + 7) / 8 → length X < n → r ≡ refused_of 9 n → Says r X all
+        pub says_9 : (r : Result ℕ Refusal) (n : ℕ) → p.off ≡ false → m ≤ p.next → n ≡ p.at / 8 + (p.at % 8 + 7) / 8 → length X < n → r ≡ Err (TooFewBytes n) → Says r X all
         unfolding settled answer_of bytes_needed
         says_9 r n h l e x q =
             let w = whole h l in
             let c : (length (encode (type_of f) w.val) + 7) / 8 ≡ n = omega (arith, w.long, e) in
             rw q (sym (past t te th dl ∙ rw (w.bits, c, lt-leb n (length X) x)))
 
-        pub says_wrote : (r : Written) (n : ℕ) (q : Pen) (Y Z : List ℕ) → p.off ≡ false → m ≤ p.next → n ≡ p.at / 8 + (p.at % 8 + 7) / 8 → n ≤ length X → ((i : ℕ) → get_or X i 0 < 256)
-            → Part f (0, 0) (bit_of s) W m front X q Y → (p.at ≤ limit → Z ≡ set_bits Y p.at (bits_of (n * 8 - p.at) 0)) → r ≡ Done p.at → Says r Z all
+        pub says_wrote : (r : Result ℕ Refusal) (n : ℕ) (q : Stand) (Y Z : List ℕ) → p.off ≡ false → m ≤ p.next → n ≡ p.at / 8 + (p.at % 8 + 7) / 8 → n ≤ length X → ((i : ℕ) → get_or X i 0 < 256)
+            → Part f (0, 0) (bit_of s) W m front X q Y → (p.at ≤ limit → Z ≡ set_bits Y p.at (bits_of (n * 8 - p.at) 0)) → r ≡ Ok p.at → Says r Z all
         unfolding settled answer_of bytes_needed
         says_wrote r n q Y Z h l e x y again pad z =
             let w = whole h l in
@@ -226,15 +225,13 @@ table_sizes t down up e h =
     let c = both (leb 1 (length up)) (leb (length up) 256) a.1 in
     (leb-true 1 (length down) b.0, leb-true (length down) 256 b.1, leb-true 1 (length up) c.0, leb-true (length up) 256 c.1)
 
-pub lent-list : (W : List ℕ) (m : ℕ) (s : List ℕ) (b : Bool) → m ≡ length W / 5 → length W / 5 < 4294967296 → length s < 72057594037927936 → b ≡ inside span_tag (length s * 8) (rest W m 0) → b ≡ true → Lent W m s
-lent-list W m s b e f g h i = record { records = omega (arith, e); few = omega (arith, e, f); bytes = omega (arith, g); spans = sym h ∙ i }
+pub root_sure : (k d r : ℕ) (down up : List ℕ) → r ≡ root_of k d → length down ≤ 256 → length up ≤ 256 → sure_at 29 table down up r ≡ true
+root_sure k d r down up e b f = ap (λ (j : ℕ). sure_at depth table down up j) e ∙ sure k d down up b f
 
-pub root_ready : (k d r : ℕ) (down up W : List ℕ) (m : ℕ) (s : List ℕ) → r ≡ root_of k d → 1 ≤ length down → length down ≤ 256 → 1 ≤ length up → length up ≤ 256 → Lent W m s
-    → Ready table down up W m s × (29 < 2 ^ 32) × (sure_at 29 table down up r ≡ true)
-root_ready k d r down up W m s e a b c f l =
-    (record { nodes = few-nodes; down_some = a; down_few = b; up_some = c; up_few = f; list = l }, omega arith, ap (λ (j : ℕ). sure_at depth table down up j) e ∙ sure k d down up b f)
+pub nodes_few : length table ≤ 6000000
+nodes_few = few-nodes
 
-pub root-part : (k d r : ℕ) (down up : List ℕ) (f : Fmt) (s : ℕ → ℕ) (W : List ℕ) (m : ℕ) (p : Pen) (X : List ℕ) (q : Pen) (Y : List ℕ) → r ≡ root_of k d → kind_of k d down up ≡ some f → Part (format_at 29 table down up r) (0, 0) s W m p X q Y → Part f (0, 0) s W m p X q Y
+pub root-part : (k d r : ℕ) (down up : List ℕ) (f : Fmt) (s : ℕ → ℕ) (W : List ℕ) (m : ℕ) (p : Stand) (X : List ℕ) (q : Stand) (Y : List ℕ) → r ≡ root_of k d → kind_of k d down up ≡ some f → Part (format_at 29 table down up r) (0, 0) s W m p X q Y → Part f (0, 0) s W m p X q Y
 root-part k d r down up f s W m p X q Y e h a =
     let z : f ≡ format_at depth table down up r = sym (ap (λ (j : ℕ). format_at depth table down up j) e ∙ meaning k d down up h) in
     rw z a

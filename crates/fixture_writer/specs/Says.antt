@@ -1,21 +1,31 @@
 -- An answer of the writer, in the words of the definition.
-use Rattle.std.specs.Prelude.{◌≡◌, false, List, ℕ}
+use Rattle.std.specs.Prelude.{◌≡◌, false, List, ℕ, Result, Ok, Err}
 use Rattle.record_lists.specs.Message as message
-use Rattle.pens.specs.declared.Pen.{Pen}
-use Rattle.fixture_writer.specs.declared.Written.{Written}
-use Rattle.fixture_writer.specs.declared.Written.TheVariants.{Wrote, Refused}
+use Rattle.pens.specs.Stand.{Stand}
+use Rattle.fixture_writer.specs.declared.Refusal.{Refusal}
+use Rattle.fixture_writer.specs.declared.Refusal.TheVariants.{TablesUnfit, NoDirection, NoMessage, TooFewBytes}
 
--- the pen before the first record and the first bit
-abbrev pub front : Pen
+-- where the writer stands before the first record and the first bit
+abbrev pub front : Stand
 front = record { next = 0; at = 0; off = false }
 
-abbrev pub refused_of : ℕ → ℕ → Written
-refused_of n k = Refused n k
+abbrev pub number_of : Refusal → ℕ
+number_of TablesUnfit = 2
+number_of NoDirection = 3
+number_of NoMessage = 8
+number_of (TooFewBytes k) = 9
 
-unfoldable pub answer_of : Written → message.Written
-answer_of (Wrote n) = message.written n
-answer_of (Refused n k) = message.refused n k
+-- only the last needs bytes
+abbrev pub need_of : Refusal → ℕ
+need_of TablesUnfit = 0
+need_of NoDirection = 0
+need_of NoMessage = 0
+need_of (TooFewBytes k) = k
+
+unfoldable pub answer_of : Result ℕ Refusal → message.Written
+answer_of (Ok n) = message.written n
+answer_of (Err e) = message.refused (number_of e) (need_of e)
 
 -- the answer r, with the bytes Y lent afterwards, is the outcome o
-abbrev pub Says : Written → List ℕ → message.Written × List ℕ → Type 0
+abbrev pub Says : Result ℕ Refusal → List ℕ → message.Written × List ℕ → Type 0
 Says r Y o = (answer_of r, Y) ≡ o

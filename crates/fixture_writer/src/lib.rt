@@ -7,23 +7,60 @@ ghost use Rattle.x691.specs.Bits.{bit_of};
 ghost use Rattle.atn.specs.Format.{Fmt};
 ghost use Rattle.record_lists.specs.Kinds.{kind_of};
 ghost use Rattle.record_lists.specs.Message.{write_message};
+ghost use Rattle.pens.specs.Stand.{after};
 ghost use Rattle.pens.specs.Writes.{Part};
-ghost use Rattle.write_leaves.specs.Lent.{Lent};
-ghost use Rattle.fixture_writer.specs.Says.{Says, front, refused_of};
+ghost use Rattle.fixture_writer.specs.declared.Refusal.TheVariants.{NoMessage};
+ghost use Rattle.fixture_writer.specs.Says.{Says, front, number_of, need_of};
 
 use lent_tables::tables_fit;
 use message_nodes::root;
 use message_nodes::table::NODES;
-use pens::Pen;
 use pens::places::put_at;
-use write_nodes::node::write_node;
+use pens::{Pen, Records, Refused};
+use write_nodes::node::{Walk, write_node};
+use write_spans::Lent;
 use write_spans::inside::spans_inside;
+use write_steps::lead::Tables;
 
-// Written: the number of bits, which stand in as many bytes as hold them. Refused: the number of the refusal, and the bytes needed, which only 9 has.
+// Why nothing is written.
 #[derive(Clone, Copy)]
-pub enum Written {
-    Wrote { bits: usize },
-    Refused { number: u64, need: usize },
+pub enum Refusal {
+    TablesUnfit,
+    NoDirection,
+    NoMessage,
+    TooFewBytes { need: usize },
+}
+
+impl Refusal {
+    // The number of the refusal.
+    pub fn number(self) -> u64
+        ensures { result ≡ number_of self }
+    {
+        match self {
+            Refusal::TablesUnfit => 2,
+            Refusal::NoDirection => 3,
+            Refusal::NoMessage => 8,
+            Refusal::TooFewBytes { need: _ } => 9,
+        }
+    }
+
+    // The bytes needed, where too few are lent; else 0.
+    pub fn need(self) -> usize
+        ensures { result ≡ need_of self }
+    {
+        match self {
+            Refusal::TooFewBytes { need } => need,
+            _ => 0,
+        }
+    }
+}
+
+impl From<Refused> for Refusal {
+    ghost from_gives = { λ _ e. e ≡ NoMessage };
+
+    fn from(_refused: Refused) -> Refusal {
+        Refusal::NoMessage
+    }
 }
 
 // How deep the messages are.
@@ -34,7 +71,7 @@ const RECORDS: usize = 4294967296;
 
 const BYTES: usize = 72057594037927936;
 
-// kind 0 is CPDLC, 1 Context Management, 2 association control; direction 0 is the aircraft's message, 1 the ground's. Each record of the list is five words, the fifth of which says nothing here; its spans point into the bits of `src`.
+// kind 0 is CPDLC, 1 Context Management, 2 association control; direction 0 is the aircraft's message, 1 the ground's: numbers, since other ones are refused. Each record of the list is five words, the fifth of which says nothing here; its spans point into the bits of `src`. What is written is told in bits, which stand in as many bytes as hold them.
 pub fn write_message(
     kind: u64,
     direction: u64,
@@ -43,77 +80,67 @@ pub fn write_message(
     words: &[u64],
     src: &[u8],
     out: &mut [u8],
-) -> Written
+) -> Result<usize, Refusal>
     ensures { Says result out.new (write_message kind direction down.now up.now words.now src.now out.old) }
 {
     if !tables_fit(down, up) {
-        return refused(2, 0);
+        return Err(Refusal::TablesUnfit);
     }
     if 1 < direction {
-        return refused(3, 0);
+        return Err(Refusal::NoDirection);
     }
     if 2 < kind {
-        return refused(8, 0);
+        return Err(Refusal::NoMessage);
     }
     if words.len() % 5 != 0 {
-        return refused(8, 0);
+        return Err(Refusal::NoMessage);
     }
     let m = words.len() / 5;
     if RECORDS <= m {
-        return refused(8, 0);
+        return Err(Refusal::NoMessage);
     }
     if BYTES <= src.len() {
-        return refused(8, 0);
+        return Err(Refusal::NoMessage);
     }
-    if !spans_inside(words, m, src) {
-        return refused(8, 0);
+    let records = Records { words, len: m };
+    if !spans_inside(records, src) {
+        return Err(Refusal::NoMessage);
     }
+    let tables = Tables { down, up };
+    let lent = Lent { records, src };
     let mut spare = [0u8; 1];
-    let p = write_list(kind, direction, down, up, words, m, src, &mut spare);
-    if p.off {
-        return refused(8, 0);
-    }
+    let p = write_list(kind, direction, tables, lent, &mut spare)?;
     if p.next < m {
-        return refused(8, 0);
+        return Err(Refusal::NoMessage);
     }
     let bits = p.at;
     let need = bits / 8 + (bits % 8 + 7) / 8;
     if out.len() < need {
-        return refused(9, need);
+        return Err(Refusal::TooFewBytes { need });
     }
-    write_list(kind, direction, down, up, words, m, src, out);
+    // What was measured is written: this run ends as the first did.
+    let _written = write_list(kind, direction, tables, lent, out);
     put_at(out, bits, need * 8 - bits, 0);
-    Written::Wrote { bits: bits }
+    Ok(bits)
 }
 
 // The message from the list's first record and from the first bit on.
 fn write_list(
     kind: u64,
     direction: u64,
-    down: &[u8],
-    up: &[u8],
-    words: &[u64],
-    m: usize,
-    src: &[u8],
+    tables: Tables,
+    lent: Lent,
     out: &mut [u8],
-) -> Pen
-    requires { (kind ≤ 2) × (direction ≤ 1) × (1 ≤ length down.now) × (length down.now ≤ 256) × (1 ≤ length up.now) × (length up.now ≤ 256) × Lent words.now m src.now }
-    ensures { (f : Fmt) → kind_of kind direction down.now up.now ≡ some f → Part f (0, 0) (bit_of src.now) words.now m front out.old result out.new }
+) -> Result<Pen, Refused>
+    requires { (kind ≤ 2) × (direction ≤ 1) }
+    ensures { (f : Fmt) → kind_of kind direction tables.entry.down.now tables.entry.up.now ≡ some f → Part f (0, 0) (bit_of lent.entry.src.now) lent.entry.records.words.now lent.entry.records.len front out.old (after result) out.new }
 {
-    let p = Pen {
-        next: 0,
-        at: 0,
-        off: false,
-    };
+    let p = Pen { next: 0, at: 0 };
     let k = root(kind, direction);
-    write_node(&NODES, down, up, words, m, src, out, k, DEPTH, 0, 0, p)
-}
-
-fn refused(number: u64, need: usize) -> Written
-    ensures { result ≡ refused_of number need }
-{
-    Written::Refused {
-        number: number,
-        need: need,
-    }
+    let walk = Walk {
+        nodes: &NODES,
+        tables,
+        lent,
+    };
+    write_node(walk, out, k, DEPTH, 0, 0, p)
 }

@@ -23,10 +23,10 @@ use write_steps::meet::meet;
 
 // What is walked: the table of nodes, the lent tables and the list.
 #[derive(Clone, Copy)]
-pub struct Walk<'a> {
-    pub nodes: &'a [u64],
-    pub tables: Tables<'a>,
-    pub lent: Lent<'a>,
+pub struct Walk<'n, 'd, 'u, 'w, 's> {
+    pub nodes: &'n [u64],
+    pub tables: Tables<'d, 'u>,
+    pub lent: Lent<'w, 's>,
     ghost few: { length nodes.now ≤ 6000000 },
 }
 

@@ -19,9 +19,9 @@ mod units; // units.rt: the units of a span, counted and put
 
 // A list of records, and the bytes that its spans point into, past which none goes.
 #[derive(Clone, Copy)]
-pub struct Lent<'a> {
-    pub records: Records<'a>,
-    pub src: &'a [u8],
+pub struct Lent<'w, 's> {
+    pub records: Records<'w>,
+    pub src: &'s [u8],
     ghost short: { length src.now < 2 ^ 56 },
     ghost inside_src: { inside span_tag (length src.now * 8) (rest records.words.now records.len 0) ≡ true },
 }

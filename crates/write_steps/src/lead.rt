@@ -20,9 +20,9 @@ pub struct Below {
 
 // The two lent tables.
 #[derive(Clone, Copy)]
-pub struct Tables<'a> {
-    pub down: &'a [u8],
-    pub up: &'a [u8],
+pub struct Tables<'d, 'u> {
+    pub down: &'d [u8],
+    pub up: &'u [u8],
     ghost down_some: { 1 ≤ length down.now },
     ghost down_few: { length down.now ≤ 256 },
     ghost up_some: { 1 ≤ length up.now },

@@ -1,10 +1,11 @@
+use Rattle.std.proofs.Common.{arith}
 use Rattle.message_nodes.specs.Table.{table}
-use Rattle.fixture_writer.proofs.WriterLaws.{root_ready, root-part}
+use Rattle.fixture_writer.proofs.WriterLaws.{root_sure, root-part}
 use Rattle.fixture_writer.proofs.write_list.Goals as goal
 
 pub write_node-requires : goal.write_node-requires
 unfolding table
-write_node-requires c = root_ready c.args.kind c.args.direction _ _ _ _ _ _ c.root-k.ensures c.requires.2 c.requires.3 c.requires.4 c.requires.5 c.requires.6
+write_node-requires c = (omega arith, root_sure c.args.kind c.args.direction _ _ _ c.root-k.ensures c.args.tables.down_few c.args.tables.up_few)
 
 pub returns : goal.returns
 unfolding table
