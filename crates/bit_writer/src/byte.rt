@@ -7,11 +7,7 @@ ghost use Rattle.bit_writer.specs.Put.{set_bits};
 pub fn in_first(at: usize, n: usize) -> usize
     ensures { result ≡ min n (8 - at % 8) }
 {
-    let room = 8 - at % 8;
-    if n < room {
-        return n;
-    }
-    room
+    n.min(8 - at % 8)
 }
 
 // The m bits of x from `at` on, which one byte holds.

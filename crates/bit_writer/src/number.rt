@@ -10,6 +10,7 @@ pub fn put(out: &mut [u8], at: usize, n: usize, v: u64)
     requires { (n ≤ 64) × (v < 2 ^ n) × (at + n < 2 ^ 64) }
     ensures { out.new ≡ set_bits out.old at (bits_of n v) }
 {
+    // The pieces are what each byte has room for, the first and the last fewer bits than eight: a `for` over bytes would say those two again.
     let mut place = at;
     let mut left = n;
     let mut rest = v;

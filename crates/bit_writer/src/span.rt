@@ -10,11 +10,10 @@ pub fn put_span(out: &mut [u8], at: usize, src: &[u8], from: usize, n: usize)
     requires { (from + n ≤ length src.now * 8) × (from + n < 2 ^ 64) × (at + n < 2 ^ 64) }
     ensures { out.new ≡ set_bits out.old at (stretch (bit_of src.now) from n) }
 {
-    let mut done: usize = 0;
-    while done < n {
+    for i in 0..n.div_ceil(56) {
+        let done = i * 56;
         let m = chunk(n - done);
         put(out, at + done, m, per::number::uint(src, from + done, m));
-        done += m;
     }
 }
 
@@ -23,8 +22,5 @@ pub fn put_span(out: &mut [u8], at: usize, src: &[u8], from: usize, n: usize)
 fn chunk(n: usize) -> usize
     ensures { result ≡ min n 56 }
 {
-    if n < 56 {
-        return n;
-    }
-    56
+    n.min(56)
 }

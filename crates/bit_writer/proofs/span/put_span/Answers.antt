@@ -1,13 +1,14 @@
 use mathlib.Core.Path.{◌≡◌, refl, sym, ap, ◌∙◌}
+use mathlib.Core.Bool.{Bool, true, false}
 use mathlib.Core.List.{List}
-use Prim.Native.Nat.{ℕ, ◌+◌, ◌-◌, ◌≤◌}
-use native.Mathlib.Nat.{add-zero, sub-zero, add_assoc}
+use Prim.Native.Nat.{ℕ, ◌+◌, ◌-◌, ◌*◌, ◌≤◌, ◌<◌, min}
 use native.Mathlib.Omega.{arith}
-use lib.ListN.{length}
+use lib.Dec.{leb}
+use borrow.Author.Tests.{leb-true, leb-false}
 use Rattle.x691.specs.Bits.{bit_of, uint, bits_of, stretch}
 use Rattle.x691.proofs.BitLaws.{bit_of-lt}
 use Rattle.bit_writer.specs.Put.{set_bits}
-use Rattle.bit_writer.proofs.PutLaws.{set_bits-join, set_bits-length}
+use Rattle.bit_writer.proofs.PutLaws.{set_bits-join}
 use Rattle.bit_writer.proofs.Stretches.{stretch-join, stretch-length, stretch-number}
 use Rattle.bit_writer.proofs.span.put_span.Goals as goal
 
@@ -26,22 +27,31 @@ none : (s : List ℕ) (p : ℕ) (b : ℕ → ℕ) (q n : ℕ) → n ≡ 0 → se
 unfolding set_bits stretch
 none s p b q n h = rw h
 
-pub loop-done-init : goal.loop-done-init
-loop-done-init c =
-    let a = c.args in
-    (rw (add-zero a.at, add-zero a.from, sub-zero), omega arith, refl)
+-- a run of 56 bits, or what is left
+run : (s t a : List ℕ) (p q i m n v : ℕ) → i * 56 < n → m ≡ min (n - i * 56) 56 → v ≡ uint (bit_of a) (q + i * 56) m → t ≡ set_bits s (p + i * 56) (bits_of m v)
+    → set_bits s (p + i * 56) (stretch (bit_of a) (q + i * 56) (n - i * 56)) ≡ set_bits t (p + (i + 1) * 56) (stretch (bit_of a) (q + (i + 1) * 56) (n - (i + 1) * 56))
+run s t a p q i m n v l h u e = turn s t a (p + i * 56) (q + i * 56) m (n - i * 56) v (omega arith) u e ∙ go (leb 56 (n - i * 56)) refl
+  where
+    go : (z : Bool) → leb 56 (n - i * 56) ≡ z → set_bits t (p + i * 56 + m) (stretch (bit_of a) (q + i * 56 + m) (n - i * 56 - m)) ≡ set_bits t (p + (i + 1) * 56) (stretch (bit_of a) (q + (i + 1) * 56) (n - (i + 1) * 56))
+    go true z =
+        let w : 56 ≤ n - i * 56 = leb-true 56 (n - i * 56) z in
+        let x : p + i * 56 + m ≡ p + (i + 1) * 56 = omega arith in
+        let y : q + i * 56 + m ≡ q + (i + 1) * 56 = omega arith in
+        let k : n - i * 56 - m ≡ n - (i + 1) * 56 = omega arith in
+        rw (x, y, k) refl
+    go false z =
+        let w : n - i * 56 < 56 = leb-false 56 (n - i * 56) z in
+        none t _ _ _ _ (omega arith) ∙ sym (none t _ _ _ _ (omega arith))
 
-pub overflow_sub-n : goal.overflow_sub-n
-overflow_sub-n c = omega arith
+none_put : (p q n : ℕ) (s : List ℕ) (b : ℕ → ℕ) → set_bits s p (stretch b q n) ≡ set_bits s (p + 0 * 56) (stretch b (q + 0 * 56) (n - 0 * 56))
+none_put p q n s b =
+    let x : p + 0 * 56 ≡ p = omega arith in
+    let y : q + 0 * 56 ≡ q = omega arith in
+    let k : n - 0 * 56 ≡ n = omega arith in
+    rw (x, y, k) refl
 
-pub chunk-m-requires : goal.chunk-m-requires
-chunk-m-requires c = tt
-
-pub overflow_add-at : goal.overflow_add-at
-overflow_add-at c = omega arith
-
-pub overflow_add-from : goal.overflow_add-from
-overflow_add-from c = omega arith
+pub loop-i-init : goal.loop-i-init
+loop-i-init c = none_put c.args.at c.args.from c.args.n _ _
 
 pub uint-requires : goal.uint-requires
 uint-requires c = omega arith
@@ -49,30 +59,13 @@ uint-requires c = omega arith
 pub put-requires : goal.put-requires
 put-requires c = (omega arith, c.uint.ensures.1, omega arith)
 
-pub overflow_add-done : goal.overflow_add-done
-overflow_add-done c = omega arith
-
-pub loop-done-smaller : goal.loop-done-smaller
-loop-done-smaller c = omega arith
-
-pub loop-done-preserved : goal.loop-done-preserved
-loop-done-preserved c =
+pub loop-i-preserved : goal.loop-i-preserved
+loop-i-preserved c =
     let a = c.args in
-    let z = c.loop-done in
-    let m = c.chunk-m.result in
-    let v = c.uint in
-    let e = c.put.ensures in
-    let f : a.n - (z.done + m) ≡ a.n - z.done - m = omega arith in (
-      rw (f, ← (add_assoc a.at z.done m), ← (add_assoc a.from z.done m))
-          (z.invariant.0 ∙ turn z.out _ a.src.now (a.at + z.done) (a.from + z.done) m (a.n - z.done) v.result (omega arith) (v.ensures.0 (omega arith)) e),
-      omega arith,
-      ap length e ∙ set_bits-length z.out (a.at + z.done) _ ∙ z.invariant.2,
-    )
-
-pub shape_of-out : goal.shape_of-out
-shape_of-out c = c.loop-done.invariant.2
+    let z = c.loop-i in
+    z.invariant ∙ run z.out _ a.src.now a.at a.from z.i c.chunk-m.result a.n c.uint.result (omega arith) c.chunk-m.ensures (c.uint.ensures.0 (omega arith)) c.put.ensures
 
 pub returns : goal.returns
 returns c =
-    let z = c.loop-done in
-    sym (z.invariant.0 ∙ none z.out _ _ _ _ (omega arith))
+    let z = c.loop-i in
+    sym (z.invariant ∙ none z.out _ _ _ _ (omega arith))
