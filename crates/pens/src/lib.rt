@@ -91,10 +91,8 @@ pub fn take(
 {
     let i = p.next;
     if is_record(records, i, tag, element, value, second) {
-        return Ok(Pen {
-            next: i + 1,
-            at: p.at,
-        });
+        let next = i + 1;
+        return Ok(Pen { next, at: p.at });
     }
     Err(Refused)
 }

@@ -76,10 +76,9 @@ pub fn put_whole(
         let size = words[k + 3] as usize;
         let sized = ink(out, p, n, v);
         let behind = ink_span(lent.src, out, sized, from, size);
-        return Ok(Pen {
-            next: i + 1,
-            at: behind.at,
-        });
+        let next = i + 1;
+        let at = behind.at;
+        return Ok(Pen { next, at });
     }
     Err(Refused)
 }

@@ -53,12 +53,12 @@ overflow_mul-need c =
 pub returns : goal.returns
 returns c =
     says_wrote c.args.kind c.args.direction c.args.down.now c.args.up.now c.args.words.now c.args.src.now c.args.out.now c.tables_fit.result c.tables_fit.ensures c.if-not-tables_fit.false c.if-direction-gt1.false c.if-kind-gt2.false _ refl c.if-words-ne0.false c.if-m-ge-RECORDS.false c.if-src-ge-BYTES.false c.spans_inside.result c.spans_inside.ensures c.if-not-spans_inside.false (before c.in_ok-p.p) _ _ (c.in_ok-p.ensures _ (kind-of c.args.kind c.args.direction c.args.down.now c.args.up.now c.args.words.now c.args.src.now c.args.out.now c.tables_fit.result c.tables_fit.ensures c.if-not-tables_fit.false c.if-direction-gt1.false c.if-kind-gt2.false _ refl c.if-words-ne0.false c.if-m-ge-RECORDS.false c.if-src-ge-BYTES.false)) _ _ (after c.write_list-written.result) _ _ refl c.if-p-m.false refl c.if-out-need.false (λ i. omega (arith, (goal.at.returns c).Else-p-m.type_inv.out i)) (c.write_list-written.ensures _ (kind-of c.args.kind c.args.direction c.args.down.now c.args.up.now c.args.words.now c.args.src.now c.args.out.now c.tables_fit.result c.tables_fit.ensures c.if-not-tables_fit.false c.if-direction-gt1.false c.if-kind-gt2.false _ refl c.if-words-ne0.false c.if-m-ge-RECORDS.false c.if-src-ge-BYTES.false)) c.put_at.ensures refl
+
 pub returns-in_err-p : goal.returns-in_err-p
 returns-in_err-p c =
     let e = err_from_is_err_and c.from_residual.result c.from_residual.ensures.1 in
     rw (e.1, e.2)
     (says_8_off c.args.kind c.args.direction c.args.down.now c.args.up.now c.args.words.now c.args.src.now c.args.out.now c.tables_fit.result c.tables_fit.ensures c.if-not-tables_fit.false c.if-direction-gt1.false c.if-kind-gt2.false _ refl c.if-words-ne0.false c.if-m-ge-RECORDS.false c.if-src-ge-BYTES.false c.spans_inside.result c.spans_inside.ensures c.if-not-spans_inside.false refused _ _ (c.in_err-p.ensures _ (kind-of c.args.kind c.args.direction c.args.down.now c.args.up.now c.args.words.now c.args.src.now c.args.out.now c.tables_fit.result c.tables_fit.ensures c.if-not-tables_fit.false c.if-direction-gt1.false c.if-kind-gt2.false _ refl c.if-words-ne0.false c.if-m-ge-RECORDS.false c.if-src-ge-BYTES.false)) _ refl refl)
-
 
 pub invariant_of-tables : goal.invariant_of-tables
 invariant_of-tables c =
