@@ -4,7 +4,7 @@ ghost use Rattle.record_lists.specs.Message.{write_message};
 ghost use Rattle.fixture_writer.specs.Says.{answer_of};
 ghost use Rattle.adjagosk.specs.Frames.{FillsFrame, frame_of};
 
-use fixture_writer::{Written, write_message};
+use fixture_writer::{Refusal, write_message};
 
 // What was written, in numbers. `refused` is 0, or the number of the refusal: 2, 3, 8 or 9. Behind a refusal `bits` is 0, and only 9 has a `need`, in bytes.
 #[repr(C)]
@@ -30,19 +30,23 @@ pub fn adjagosk_write(
     in_frame(a)
 }
 
-fn in_frame(a: Written) -> Frame
+fn in_frame(a: Result<usize, Refusal>) -> Frame
     ensures { result ≡ frame_of (answer_of a) }
 {
     match a {
-        Written::Wrote { bits } => Frame {
+        Ok(bits) => Frame {
             refused: 0,
-            bits: bits,
+            bits,
             need: 0,
         },
-        Written::Refused { number, need } => Frame {
-            refused: number,
-            bits: 0,
-            need: need,
-        },
+        Err(refusal) => {
+            let number = refusal.number();
+            let need = refusal.need();
+            Frame {
+                refused: number,
+                bits: 0,
+                need,
+            }
+        }
     }
 }

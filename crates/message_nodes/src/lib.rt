@@ -11,7 +11,7 @@ use node_tables::{Node, node_at};
 // table.rt: the nodes
 pub mod table;
 
-// The root of a message, by its kind and direction.
+// The root of a message, by its kind and direction: the numbers with which `write_message` is called, since those that are none are refused there.
 pub fn root(kind: u64, direction: u64) -> usize
     requires { (kind ≤ 2) × (direction ≤ 1) }
     ensures { result ≡ root_of kind direction }

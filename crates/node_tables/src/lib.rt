@@ -5,7 +5,7 @@ ghost use Rattle.std.specs.Prelude.{◌≡◌, ◌≤◌, ◌<◌, length};
 ghost use Rattle.node_tables.specs.Nodes.{node_word};
 ghost use Rattle.node_tables.specs.Row.{IsNode};
 
-// A kind, and what it takes.
+// A kind, and what it takes: numbers, since `meaning` and `sure` are of a table of numbers, in which the same row is a format or a member of a sequence by where it is read.
 #[derive(Clone, Copy)]
 pub struct Node {
     pub kind: u64,

@@ -31,7 +31,7 @@ pub struct Wrote<T> {
 #[derive(Clone, Copy)]
 pub struct Refused;
 
-// The records of a list, five words each.
+// The records of a list, five words each. Not a slice of fives: words are what the caller lends, C too, and what the definitions read.
 #[derive(Clone, Copy)]
 pub struct Records<'a> {
     pub words: &'a [u64],

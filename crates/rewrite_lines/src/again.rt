@@ -4,7 +4,7 @@ ghost use Rattle.std.specs.Prelude.{◌≤◌, length};
 use super::same::same_message;
 use answers::Answer;
 use entry_names::Entry;
-use fixture_writer::{Written, write_message};
+use fixture_writer::{Refusal, write_message};
 use line_output::output::{Output, put};
 use lines::said::labelled;
 
@@ -111,7 +111,7 @@ fn rewritten(
 fn compared(
     gathered: &mut [u8],
     output: Output,
-    w: Written,
+    w: Result<usize, Refusal>,
     written: &[u8],
     frame: &[u8],
     reach: usize,
@@ -120,13 +120,13 @@ fn compared(
     ensures { result.len ≤ length gathered.old }
 {
     match w {
-        Written::Wrote { bits } => {
+        Ok(bits) => {
             if same_message(written, bits, frame, reach) {
                 return told(gathered, output, b"same ", bits as u64);
             }
             told(gathered, output, b"other ", bits as u64)
         }
-        Written::Refused { number, need } => told(gathered, output, b"no ", number),
+        Err(refusal) => told(gathered, output, b"no ", refusal.number()),
     }
 }
 
