@@ -5,7 +5,6 @@ use Rattle.x691.specs.Encoding.{width}
 use Rattle.record_lists.specs.Items.{Item, plain}
 use Rattle.record_lists.specs.Parse.{Got, got, value_of, leaf, keep}
 use Rattle.pens.specs.Stand.{Stand, before, refused}
-use Rattle.pens.specs.declared.Pen.{Pen}
 use Rattle.pens.specs.declared.Wrote.{Wrote}
 use Rattle.pens.specs.declared.Refused.{Refused}
 use Rattle.pens.specs.Rest.{items}

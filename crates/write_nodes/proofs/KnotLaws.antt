@@ -25,7 +25,7 @@ use Rattle.x691.specs.Types.{Value}
 use Rattle.x691.specs.Encoding.{joined, encode}
 use Rattle.atn.specs.Format.{type_of}
 use Rattle.record_lists.specs.Items.{Item}
-use Rattle.record_lists.specs.Parse.{Got, got, several, parse}
+use Rattle.record_lists.specs.Parse.{got, several, parse}
 use Rattle.pens.specs.declared.Refused.{Refused}
 use Rattle.pens.specs.declared.Wrote.{Wrote as Written}
 use Rattle.pens.specs.Stand.{Stand, refused}

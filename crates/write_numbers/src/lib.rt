@@ -52,7 +52,13 @@ pub fn write_name(
 }
 
 // A reason, in the bits of a name from 0 to 30: only three are listed.
-pub fn write_reason(records: Records, out: &mut [u8], p: Pen, element: u64, tag: u64) -> Result<Pen, Refused>
+pub fn write_reason(
+    records: Records,
+    out: &mut [u8],
+    p: Pen,
+    element: u64,
+    tag: u64,
+) -> Result<Pen, Refused>
     requires { span_tag tag ≡ false }
     ensures { (b : ℕ → ℕ) (y : ℕ) → Part (listed tag 30 (0 ∷ 1 ∷ 30 ∷ [])) (element, y) b records.entry.words.now records.entry.len (before p) out.old (after result) out.new }
 {

@@ -1,5 +1,4 @@
 use mathlib.Core.Path.{refl}
-use borrow.Author.Rules.{rules}
 use Rattle.pens.proofs.PenLaws.{ink_far, ink-near}
 use Rattle.pens.proofs.ink.Goals as goal
 

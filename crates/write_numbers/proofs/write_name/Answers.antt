@@ -1,4 +1,3 @@
-use Rattle.std.proofs.Common.{◌+◌, ◌*◌, arith}
 use Rattle.write_numbers.proofs.NumberLaws.{name-written}
 use Rattle.write_numbers.proofs.write_name.Goals as goal
 

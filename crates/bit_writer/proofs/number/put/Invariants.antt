@@ -1,6 +1,6 @@
 -- `bit_writer::number::put` meets its contract. The loop's invariant: the bits still to put are the `left` ones of `rest`, from `place` on.
 use mathlib.Core.Path.{◌≡◌}
-use Prim.Native.Nat.{◌+◌, ◌-◌, ◌^◌, ◌≤◌, ◌<◌}
+use Prim.Native.Nat.{◌+◌, ◌^◌, ◌≤◌, ◌<◌}
 use lib.ListN.{length}
 use Rattle.x691.specs.Bits.{bits_of}
 use Rattle.bit_writer.specs.Put.{set_bits}

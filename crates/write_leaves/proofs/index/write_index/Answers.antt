@@ -1,5 +1,4 @@
 use mathlib.Core.Path.{refl, sym, ◌∙◌}
-use native.Mathlib.Omega.{arith}
 use Rattle.pens.specs.Stand.{before}
 use Rattle.write_leaves.proofs.IndexLaws.{indexes_end, indexes_high, indexes_other, indexes_got, inks_width, index-fits}
 use Rattle.write_leaves.proofs.index.write_index.Goals as goal

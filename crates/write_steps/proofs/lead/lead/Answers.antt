@@ -72,4 +72,3 @@ returns-then-kind-eq15 c =
 pub returns : goal.returns
 returns c =
     λ F S N s h. rw c.to_part-2.ensures (leads_through F S N c.args.tables.down.now c.args.tables.up.now c.args.node c.args.x c.args.y s _ _ _ _ _ _ (last_two c.requires.0 c.if-kind-eq8.false c.if-kind-eq9.false c.if-kind-eq10.false c.if-kind-eq11.false c.if-kind-eq14.false c.if-kind-eq15.false) h refl refl refl refl)
-
