@@ -1,13 +1,16 @@
 -- The depths of a table, kept from its last node on.
-use Rattle.std.proofs.Common.{◌≡◌, ℕ, zero, suc, ◌+◌, ◌-◌, ◌/◌, ◌<◌, ◌≤◌, Bool, true, false, ◌&&◌, ◌||◌, eqb, ltb, leb, ◌⊎◌, List, length, get_or, set, sym, refl, ap, ◌∙◌, inl, inr, add-zero, arith, get_or-set_other, get_or-set_same, ltb-true, eqb-true, le-leb, leb-false, leb-true}
+use Rattle.std.proofs.Common.{◌≡◌, ℕ, zero, suc, ◌+◌, ◌-◌, ◌/◌, ◌<◌, ◌≤◌, Bool, true, false, ◌&&◌, ◌||◌, eqb, ltb, leb, ◌⊎◌, max, min, List, length, get_or, set, sym, refl, ap, ◌∙◌, inl, inr, add-zero, arith, get_or-set_other, get_or-set_same, ltb-true, eqb-true, le-leb, leb-false, leb-true}
+use Rattle.std.proofs.Math.Nat.{le-max_left, le-max_right, min-le_left, min-le_right, max-le, le-min}
+use Rattle.std.proofs.lemmas.Bool.{eqb-false}
 use borrow.Author.Tests.{lt-leb}
 use Rattle.atn.proofs.Inverse.{both}
 use Rattle.schema_tables.specs.Nodes.{nodes}
-use Rattle.schema_tables.specs.Tests.{below, each, first_of, count_of, first_at, count_at, link_fits, links_fit, within}
+use Rattle.schema_tables.specs.Tests.{below, each, first_at, count_at, link_fits, links_fit, within}
 use Rattle.schema_nodes.specs.declared.node.Node.{Node}
+use Rattle.schema_nodes.specs.Names.{first_named, count_named}
 use Rattle.schema_nodes.specs.Row.{IsNode}
 use Rattle.schema_nodes.specs.Depths.{Deepest}
-use Rattle.schema_nodes.proofs.TestLaws.{below_at, its_count, its_first}
+use Rattle.schema_nodes.proofs.TestLaws.{below_at, its_count, its_first, each_named}
 
 ---------------------------------------------------------------- the greatest of some depths
 
@@ -29,23 +32,22 @@ each_last P k (suc n) =
     regroup false b c = refl
 
 -- a number is at most g where both are
-and-more : (d e g : ℕ) → d < e → leb e g ≡ leb d g && leb e g
-and-more d e g l = go (leb e g) refl
+most : (d e g : ℕ) → leb (max d e) g ≡ leb d g && leb e g
+most d e g = go (leb d g) (leb e g) refl refl
   where
-    go : (t : Bool) → leb e g ≡ t → t ≡ leb d g && t
-    go true q = rw (le-leb d g (omega (arith, leb-true e g q)))
-    go false q = none (leb d g)
-      where
-        none : (t : Bool) → false ≡ t && false
-        none true = refl
-        none false = refl
+    go : (t u : Bool) → leb d g ≡ t → leb e g ≡ u → leb (max d e) g ≡ t && u
+    go true true p q = le-leb (max d e) g (max-le (leb-true d g p) (leb-true e g q))
+    go true false p q = lt-leb (max d e) g (omega (arith, leb-false e g q, le-max_right d e))
+    go false true p q = lt-leb (max d e) g (omega (arith, leb-false d g p, le-max_left d e))
+    go false false p q = lt-leb (max d e) g (omega (arith, leb-false d g p, le-max_left d e))
 
-and_less : (d e g : ℕ) → e ≤ d → leb d g ≡ leb d g && leb e g
-and_less d e g l = go (leb d g) refl
+-- above g what is cut at 17 stays above it
+least : (d g : ℕ) → g ≤ 16 → leb (min d 17) g ≡ leb d g
+least d g b = go (leb d g) refl
   where
-    go : (t : Bool) → leb d g ≡ t → t ≡ t && leb e g
-    go true q = rw (le-leb e g (omega (arith, leb-true d g q)))
-    go false q = refl
+    go : (t : Bool) → leb d g ≡ t → leb (min d 17) g ≡ t
+    go true q = le-leb (min d 17) g (omega (arith, leb-true d g q, min-le_left d 17))
+    go false q = lt-leb (min d 17) g (le-min (leb-false d g q) (omega arith))
 
 module _ (D : List ℕ) (first : ℕ) where
   -- d is the greatest of the first i
@@ -56,17 +58,11 @@ module _ (D : List ℕ) (first : ℕ) where
   unfolding each
   upto_none = record { all = λ g. le-leb 0 g (omega arith) }
 
-  pub upto_more : {d i : ℕ} → d < get_or D (first + i) 0 → Upto d i → Upto (get_or D (first + i) 0) (i + 1)
-  upto_more {d} {i} l u = record { all = λ g. and-more d (get_or D (first + i) 0) g l ∙ ap (λ t. t && leb (get_or D (first + i) 0) g) (u.all g) ∙ sym (each_last (λ j. leb (get_or D j 0) g) first i) }
+  pub upto_more : {d i r : ℕ} → r ≡ max d (get_or D (first + i) 0) → Upto d i → Upto r (i + 1)
+  upto_more {d} {i} {r} e u = record { all = λ g. rw e (most d (get_or D (first + i) 0) g ∙ ap (λ t. t && leb (get_or D (first + i) 0) g) (u.all g) ∙ sym (each_last (λ j. leb (get_or D j 0) g) first i)) }
 
-  pub upto_less : {d i : ℕ} → get_or D (first + i) 0 ≤ d → Upto d i → Upto d (i + 1)
-  upto_less {d} {i} l u = record { all = λ g. and_less d (get_or D (first + i) 0) g l ∙ ap (λ t. t && leb (get_or D (first + i) 0) g) (u.all g) ∙ sym (each_last (λ j. leb (get_or D j 0) g) first i) }
-
-  pub upto_all : {d i : ℕ} (count : ℕ) → i ≤ count → count ≤ i → d < 17 → Upto d i → Deepest D first count d
-  upto_all {d} {i} count l m h u = let e : i ≡ count = omega arith in record { small = omega arith; all = λ g _. u.all g ∙ rw e }
-
-  pub upto_deep : {d i : ℕ} (count : ℕ) → i ≤ count → count ≤ i → 17 ≤ d → Upto d i → Deepest D first count 17
-  upto_deep {d} {i} count l m h u = let e : i ≡ count = omega arith in record { small = omega arith; all = λ g b. lt-leb 17 g (omega arith) ∙ sym (lt-leb d g (omega arith)) ∙ u.all g ∙ rw e }
+  pub upto_all : {d r : ℕ} (count : ℕ) → r ≡ min d 17 → Upto d count → Deepest D first count r
+  upto_all {d} {r} count e u = record { small = omega (arith, e, min-le_right d 17); all = λ g b. rw e (least d g b ∙ u.all g) }
 
 pub in_depths : (D : List ℕ) (first count i : ℕ) → (count ≡ 0) ⊎ (first + count ≤ length D) → i < count → first + i < length D
 in_depths D first count i (inl z) l = absurd (omega arith)
@@ -95,6 +91,14 @@ module _ (N : List ℕ) (fits : links_fit N ≡ true) where
       link false true false q x y w = absurd (let z : ◌≡◌ {A = ℕ} 0 1 = cc in omega arith)
       link false false b q x y w = absurd (let z : ◌≡◌ {A = ℕ} 0 1 = cc in omega arith)
 
+  pub named_behind : (k : ℕ) → k < length N / 4 → {n : Node} {count first : ℕ} → IsNode N k n → count ≡ count_named n → first ≡ first_named n → (count ≡ 0) ⊎ ((k < first) × (first + count ≤ length N / 4))
+  named_behind k l {n} {count} {first} i c f = go (eqb count 0) refl (named-behind k l)
+    where
+      go : (t : Bool) → eqb count 0 ≡ t → (count_at N k ≡ 0) ⊎ ((k < first_at N k) × (first_at N k + count_at N k ≤ length N / 4)) → (count ≡ 0) ⊎ ((k < first) × (first + count ≤ length N / 4))
+      go true e z = inl (eqb-true count 0 e)
+      go false e (inl z) = inl (sym (its_count N k i c f) ∙ z)
+      go false e (inr z) = let p = its_first N k i c f (eqb-false count 0 e) in let q = its_count N k i c f in inr (omega (arith, z.0, p), omega (arith, z.1, p, q))
+
   pub some-node : 1 ≤ length N / 4
   unfolding links_fit nodes
   some-node = leb-true 1 (length N / 4) (both (leb 1 (length N / 4)) (below (λ j. link_fits N j) (length N / 4)) fits).0
@@ -107,23 +111,17 @@ module _ (N : List ℕ) (fits : links_fit N ≡ true) where
   each_as P Q lo hi h k zero l m = refl
   each_as P Q lo hi h k (suc n) l m = rw (h k l (omega arith), each_as P Q lo hi h (suc k) n (omega arith) (omega arith))
 
-  module _ {D : List ℕ} {k : ℕ} (l : k < length N / 4) (u : Kept N D (suc k)) {n : Node} {count first d : ℕ} (i : IsNode N k n) (c : count ≡ count_of n.kind n.b n.c) (f : first ≡ first_of n.kind n.a n.b) (x : Deepest D first count d) where
+  module _ {D : List ℕ} {k : ℕ} (l : k < length N / 4) (u : Kept N D (suc k)) {n : Node} {count first d : ℕ} (i : IsNode N k n) (c : count ≡ count_named n) (f : first ≡ first_named n) (x : Deepest D first count d) where
     own : (g : ℕ) → g ≤ 16 → within g N k ≡ leb (1 + d) g
     unfolding within
     own zero b = sym (lt-leb (1 + d) 0 (omega arith))
     own (suc g) b =
-        rw (its_count N k i c f, its_first N k i c f)
-        (elim (named-behind k l) [
-          | inl z ↦ none (its_count N k i c f) z
-          | inr z ↦ each_as (λ j. within g N j) (λ j. leb (get_or D j 0) g) (suc k) (length N / 4) (λ j p q. u.depth j g p q (omega arith)) first count (behind z).0 (behind z).1
+        each_named N k i c f (λ j. within g N j)
+        ∙ (elim (named_behind k l i c f) [
+          | inl z ↦ empty (λ j. within g N j) (λ j. leb (get_or D j 0) g) first count z
+          | inr z ↦ each_as (λ j. within g N j) (λ j. leb (get_or D j 0) g) (suc k) (length N / 4) (λ j p q. u.depth j g p q (omega arith)) first count (omega (arith, z.0)) z.1
         ] ∙ sym (x.all g (omega arith)) ∙ up (leb d g) refl)
       where
-        behind : (k < first_at N k) × (first_at N k + count_at N k ≤ length N / 4) → (suc k ≤ first) × (first + count ≤ length N / 4)
-        behind z = (omega (arith, z.0, its_first N k i c f), omega (arith, z.1, its_first N k i c f, its_count N k i c f))
-
-        none : count_at N k ≡ count → count_at N k ≡ 0 → each (λ j. within g N j) first count ≡ each (λ j. leb (get_or D j 0) g) first count
-        none e z = empty (λ j. within g N j) (λ j. leb (get_or D j 0) g) first count (sym e ∙ z)
-
         up : (t : Bool) → leb d g ≡ t → leb d g ≡ leb (1 + d) (suc g)
         up true q = q ∙ sym (le-leb (1 + d) (suc g) (omega (arith, leb-true d g q)))
         up false q = q ∙ sym (lt-leb (1 + d) (suc g) (omega (arith, leb-false d g q)))
@@ -139,8 +137,8 @@ module _ (N : List ℕ) (fits : links_fit N ≡ true) where
   kept-all {k = k} e u = sym (u.depth 0 16 (omega arith) (omega (arith, some-node)) (omega arith))
 
   -- the depths of what a node names are kept
-  pub named-kept : (D : List ℕ) (k : ℕ) {n : Node} {count first : ℕ} → k < length N / 4 → length N / 4 ≤ length D → IsNode N k n → count ≡ count_of n.kind n.b n.c → first ≡ first_of n.kind n.a n.b → (count ≡ 0) ⊎ (first + count ≤ length D)
-  named-kept D k l b i c f = elim (named-behind k l) [ inl z ↦ inl (sym (its_count N k i c f) ∙ z) | inr z ↦ inr (omega (arith, z.1, its_count N k i c f, its_first N k i c f)) ]
+  pub named-kept : (D : List ℕ) (k : ℕ) {n : Node} {count first : ℕ} → k < length N / 4 → length N / 4 ≤ length D → IsNode N k n → count ≡ count_named n → first ≡ first_named n → (count ≡ 0) ⊎ (first + count ≤ length D)
+  named-kept D k l b i c f = elim (named_behind k l i c f) [ inl z ↦ inl z | inr z ↦ inr (omega (arith, z.1)) ]
 
-  pub kept_step : {D : List ℕ} {k : ℕ} {n : Node} {count first d : ℕ} → 0 < k → k ≤ length N / 4 → Kept N D k → IsNode N (k - 1) n → count ≡ count_of n.kind n.b n.c → first ≡ first_of n.kind n.a n.b → Deepest D first count d → k - 1 < length D → Kept N (set D (k - 1) (1 + d)) (k - 1)
+  pub kept_step : {D : List ℕ} {k : ℕ} {n : Node} {count first d : ℕ} → 0 < k → k ≤ length N / 4 → Kept N D k → IsNode N (k - 1) n → count ≡ count_named n → first ≡ first_named n → Deepest D first count d → k - 1 < length D → Kept N (set D (k - 1) (1 + d)) (k - 1)
   kept_step {D} {k} z l u i c f x m = let e : k ≡ suc (k - 1) = omega arith in kept_more {k = k - 1} (omega arith) (rw (← e) u) i c f x m

@@ -1,10 +1,14 @@
 -- The tests of a table, by the questions that the code asks.
 use Rattle.std.proofs.Common.{◌≡◌, ℕ, zero, suc, ◌+◌, ◌-◌, ◌/◌, ◌%◌, ◌^◌, ◌<◌, ◌≤◌, Bool, true, false, ◌&&◌, ◌||◌, eqb, ltb, leb, ◌⊎◌, List, length, sym, refl, ◌∙◌, inl, inr, add-zero, arith, ltb-true, le-ltb, lt-ltb, eq-eqb, ne_eqb, eqb-true, le-leb, leb-false, leb-true}
+use Rattle.std.proofs.lemmas.Bool.{eqb-false}
 use borrow.Author.Tests.{lt-leb}
 use Rattle.atn.proofs.Inverse.{both}
 use Rattle.schema_tables.specs.Nodes.{nodes, node_word}
 use Rattle.schema_tables.specs.Tests.{below, each, raised, range_fits, kind_fits, node_fits, kinds_fit, first_of, count_of, first_at, count_at, link_fits, links_fit, within, depth_fits}
+use Rattle.schema_nodes.specs.declared.node.Leaf.TheVariants.{Number, Name, Text, Bits}
 use Rattle.schema_nodes.specs.declared.node.Node.{Node}
+use Rattle.schema_nodes.specs.declared.node.Node.TheVariants.{Leaf as leaf, Sequence, Choice, Optional, Unread, NoReader, Unlisted, Extension, Headed, Other, Unknown}
+use Rattle.schema_nodes.specs.Names.{first_named, count_named, fits}
 use Rattle.schema_nodes.specs.Row.{IsNode}
 use Rattle.schema_nodes.specs.Refusal.{refusal_of}
 
@@ -17,39 +21,26 @@ pub raised-le : (lo hi x y : ℕ) → x ≡ (lo + 9223372036854775808) % 2 ^ 64 
 unfolding range_fits raised
 raised-le lo hi x y p q = rw (p, q)
 
-module _ (k b c : ℕ) where
-  pub number_fits : (r : Bool) → k ≡ 0 → r ≡ range_fits b c → r ≡ kind_fits k b c
-  unfolding kind_fits
-  number_fits r q h = rw q h
+-- a kind above 12 has twelve others below it
+above : (k : ℕ) → 13 ≤ k → k ≡ suc (suc (suc (suc (suc (suc (suc (suc (suc (suc (suc (suc (suc (k - 13)))))))))))))
+above k l = omega arith
 
-  pub name-fits : (r : Bool) → k ≡ 1 → r ≡ range_fits 0 b → r ≡ kind_fits k b c
-  unfolding kind_fits
-  name-fits r q h = rw q h
-
-  pub text-fits : k ≡ 2 → leb b c ≡ kind_fits k b c
-  unfolding kind_fits
-  text-fits q = rw q refl
-
-  pub choice_fits : k ≡ 5 → leb 1 c ≡ kind_fits k b c
-  unfolding kind_fits
-  choice_fits q = rw q refl
-
-pub other_fits : (k b c : ℕ) → (k ≡ 0 → ⊥) → (k ≡ 1 → ⊥) → (k ≡ 2 → ⊥) → (k ≡ 5 → ⊥) → ltb k 13 ≡ kind_fits k b c
-unfolding kind_fits
-other_fits zero b c n₀ n₁ n₂ n₅ = absurd (n₀ refl)
-other_fits (suc zero) b c n₀ n₁ n₂ n₅ = absurd (n₁ refl)
-other_fits (suc (suc zero)) b c n₀ n₁ n₂ n₅ = absurd (n₂ refl)
-other_fits (suc (suc (suc zero))) b c n₀ n₁ n₂ n₅ = refl
-other_fits (suc (suc (suc (suc zero)))) b c n₀ n₁ n₂ n₅ = refl
-other_fits (suc (suc (suc (suc (suc zero))))) b c n₀ n₁ n₂ n₅ = absurd (n₅ refl)
-other_fits (suc (suc (suc (suc (suc (suc zero)))))) b c n₀ n₁ n₂ n₅ = refl
-other_fits (suc (suc (suc (suc (suc (suc (suc zero))))))) b c n₀ n₁ n₂ n₅ = refl
-other_fits (suc (suc (suc (suc (suc (suc (suc (suc zero)))))))) b c n₀ n₁ n₂ n₅ = refl
-other_fits (suc (suc (suc (suc (suc (suc (suc (suc (suc zero))))))))) b c n₀ n₁ n₂ n₅ = refl
-other_fits (suc (suc (suc (suc (suc (suc (suc (suc (suc (suc zero)))))))))) b c n₀ n₁ n₂ n₅ = refl
-other_fits (suc (suc (suc (suc (suc (suc (suc (suc (suc (suc (suc zero))))))))))) b c n₀ n₁ n₂ n₅ = refl
-other_fits (suc (suc (suc (suc (suc (suc (suc (suc (suc (suc (suc (suc zero)))))))))))) b c n₀ n₁ n₂ n₅ = refl
-other_fits (suc (suc (suc (suc (suc (suc (suc (suc (suc (suc (suc (suc (suc k))))))))))))) b c n₀ n₁ n₂ n₅ = let l : 13 ≤ 13 + k = omega arith in let e : suc (suc (suc (suc (suc (suc (suc (suc (suc (suc (suc (suc (suc k)))))))))))) ≡ 13 + k = omega arith in rw e (le-ltb (13 + k) 13 l)
+pub its_fit : (N : List ℕ) (k : ℕ) (n : Node) → IsNode N k n → node_fits N k ≡ fits n
+unfolding node_fits kind_fits
+its_fit N k (leaf (Number tag lowest highest)) i = rw (i.words.0, i.words.2, i.words.3)
+its_fit N k (leaf (Name tag highest)) i = rw (i.words.0, i.words.2)
+its_fit N k (leaf (Text tag fewest most)) i = rw (i.words.0, i.words.2, i.words.3)
+its_fit N k (leaf (Bits tag count)) i = rw i.words.0
+its_fit N k (Sequence first count) i = rw i.words.0
+its_fit N k (Choice tag first count) i = rw (i.words.0, i.words.3)
+its_fit N k (Optional node) i = rw i.words.0
+its_fit N k (Unread tag) i = rw i.words.0
+its_fit N k NoReader i = rw i.words
+its_fit N k Unlisted i = rw i.words
+its_fit N k (Extension node tag) i = rw i.words.0
+its_fit N k (Headed tag node) i = rw i.words.0
+its_fit N k (Other node) i = rw i.words.0
+its_fit N k Unknown i = rw (above (node_word N k 0) i.words)
 
 -- a test of every number below n, made one after another
 module _ (P : ℕ → Bool) where
@@ -90,73 +81,57 @@ module _ (N : List ℕ) where
   unfolding kinds_fit nodes
   kinds-all h e g = rw (eq-eqb (length N % 4) 0 h, ← e, g)
 
-  pub node_kind : (k : ℕ) {n : Node} {t : Bool} → IsNode N k n → t ≡ kind_fits n.kind n.b n.c → node_fits N k ≡ t
-  unfolding node_fits
-  node_kind k q h = sym (h ∙ rw q)
+  pub node_kind : (k : ℕ) {n : Node} {t : Bool} → IsNode N k n → t ≡ fits n → node_fits N k ≡ t
+  node_kind k {n} q h = its_fit N k n q ∙ sym h
 
 ---------------------------------------------------------------- 15
 
-module _ (k a b c : ℕ) where
-  pub first_choice : k ≡ 5 → b ≡ first_of k a b
-  unfolding first_of
-  first_choice q = rw q refl
+pub count_is : (N : List ℕ) (k : ℕ) (n : Node) → IsNode N k n → count_at N k ≡ count_named n
+unfolding count_at count_of
+count_is N k (leaf (Number tag lowest highest)) i = rw i.words.0
+count_is N k (leaf (Name tag highest)) i = rw i.words.0
+count_is N k (leaf (Text tag fewest most)) i = rw i.words.0
+count_is N k (leaf (Bits tag count)) i = rw i.words.0
+count_is N k (Sequence first count) i = rw (i.words.0, i.words.2)
+count_is N k (Choice tag first count) i = rw (i.words.0, i.words.3)
+count_is N k (Optional node) i = rw i.words.0
+count_is N k (Unread tag) i = rw i.words.0
+count_is N k NoReader i = rw i.words
+count_is N k Unlisted i = rw i.words
+count_is N k (Extension node tag) i = rw i.words.0
+count_is N k (Headed tag node) i = rw i.words.0
+count_is N k (Other node) i = rw i.words.0
+count_is N k Unknown i = rw (above (node_word N k 0) i.words)
 
-  pub first-headed : k ≡ 11 → b ≡ first_of k a b
-  unfolding first_of
-  first-headed q = rw q refl
+pub first_is : (N : List ℕ) (k : ℕ) (n : Node) → IsNode N k n → (count_named n ≡ 0 → ⊥) → first_at N k ≡ first_named n
+unfolding first_at first_of
+first_is N k (leaf l) i z = absurd (z refl)
+first_is N k (Sequence first count) i z = rw (i.words.0, i.words.1)
+first_is N k (Choice tag first count) i z = rw (i.words.0, i.words.2)
+first_is N k (Optional node) i z = rw (i.words.0, i.words.1)
+first_is N k (Unread tag) i z = absurd (z refl)
+first_is N k NoReader i z = absurd (z refl)
+first_is N k Unlisted i z = absurd (z refl)
+first_is N k (Extension node tag) i z = rw (i.words.0, i.words.1)
+first_is N k (Headed tag node) i z = rw (i.words.0, i.words.2)
+first_is N k (Other node) i z = rw (i.words.0, i.words.1)
+first_is N k Unknown i z = absurd (z refl)
 
-  pub first_other : (k ≡ 5 → ⊥) → (k ≡ 11 → ⊥) → a ≡ first_of k a b
-  unfolding first_of
-  first_other n m = rw (ne_eqb k 5 n, ne_eqb k 11 m)
-
-  pub count-sequence : k ≡ 4 → b ≡ count_of k b c
-  unfolding count_of
-  count-sequence q = rw q refl
-
-  pub count_choice : k ≡ 5 → c ≡ count_of k b c
-  unfolding count_of
-  count_choice q = rw q refl
-
-  pub count-optional : k ≡ 6 → 1 ≡ count_of k b c
-  unfolding count_of
-  count-optional q = rw q refl
-
-pub count_leaf : (k b c : ℕ) → (k ≡ 4 → ⊥) → (k ≡ 5 → ⊥) → (k ≡ 6 → ⊥) → k < 10 → 0 ≡ count_of k b c
-unfolding count_of
-count_leaf zero b c n₄ n₅ n₆ l = refl
-count_leaf (suc zero) b c n₄ n₅ n₆ l = refl
-count_leaf (suc (suc zero)) b c n₄ n₅ n₆ l = refl
-count_leaf (suc (suc (suc zero))) b c n₄ n₅ n₆ l = refl
-count_leaf (suc (suc (suc (suc zero)))) b c n₄ n₅ n₆ l = absurd (n₄ refl)
-count_leaf (suc (suc (suc (suc (suc zero))))) b c n₄ n₅ n₆ l = absurd (n₅ refl)
-count_leaf (suc (suc (suc (suc (suc (suc zero)))))) b c n₄ n₅ n₆ l = absurd (n₆ refl)
-count_leaf (suc (suc (suc (suc (suc (suc (suc zero))))))) b c n₄ n₅ n₆ l = refl
-count_leaf (suc (suc (suc (suc (suc (suc (suc (suc zero)))))))) b c n₄ n₅ n₆ l = refl
-count_leaf (suc (suc (suc (suc (suc (suc (suc (suc (suc zero))))))))) b c n₄ n₅ n₆ l = refl
-count_leaf (suc (suc (suc (suc (suc (suc (suc (suc (suc (suc k)))))))))) b c n₄ n₅ n₆ l = absurd (omega arith)
-
-pub count-one : (k b c : ℕ) → 10 ≤ k → k < 13 → 1 ≡ count_of k b c
-unfolding count_of
-count-one k b c l m = go (k - 10) (omega arith) (omega arith)
-  where
-    go : (j : ℕ) → k ≡ 10 + j → j < 3 → 1 ≡ count_of k b c
-    go zero q h = rw q refl
-    go (suc zero) q h = rw q refl
-    go (suc (suc zero)) q h = rw q refl
-    go (suc (suc (suc j))) q h = absurd (omega arith)
-
-pub count_none : (k b c : ℕ) → 13 ≤ k → 0 ≡ count_of k b c
-unfolding count_of
-count_none k b c l = let e : k ≡ suc (suc (suc (suc (suc (suc (suc (suc (suc (suc (suc (suc (suc (k - 13))))))))))))) = omega arith in rw e refl
-
-module _ (N : List ℕ) (k : ℕ) {n : Node} {count first : ℕ} (i : IsNode N k n) (c : count ≡ count_of n.kind n.b n.c) (f : first ≡ first_of n.kind n.a n.b) where
+module _ (N : List ℕ) (k : ℕ) {n : Node} {count first : ℕ} (i : IsNode N k n) (c : count ≡ count_named n) (f : first ≡ first_named n) where
   pub its_count : count_at N k ≡ count
-  unfolding count_at
-  its_count = sym (c ∙ rw i)
+  its_count = count_is N k n i ∙ sym c
 
-  pub its_first : first_at N k ≡ first
-  unfolding first_at
-  its_first = sym (f ∙ rw i)
+  pub its_first : (count ≡ 0 → ⊥) → first_at N k ≡ first
+  its_first z = first_is N k n i (λ e. z (c ∙ e)) ∙ sym f
+
+  -- of a node that names none, whatever its first is
+  pub each_named : (P : ℕ → Bool) → each P (first_at N k) (count_at N k) ≡ each P first count
+  unfolding each
+  each_named P = rw its_count (go (eqb count 0) refl)
+    where
+      go : (t : Bool) → eqb count 0 ≡ t → each P (first_at N k) count ≡ each P first count
+      go true e = let z : count ≡ 0 = eqb-true count 0 e in rw z
+      go false e = rw (its_first (eqb-false count 0 e))
 
   pub link_none : count ≡ 0 → true ≡ link_fits N k
   unfolding link_fits
@@ -164,7 +139,7 @@ module _ (N : List ℕ) (k : ℕ) {n : Node} {count first : ℕ} (i : IsNode N k
 
   link_as : (count ≡ 0 → ⊥) → {t : Bool} → t ≡ ltb k first && leb (first + count) (nodes N) → t ≡ link_fits N k
   unfolding link_fits
-  link_as z h = rw (its_count, its_first, ne_eqb count 0 z) h
+  link_as z h = rw (its_count, its_first z, ne_eqb count 0 z) h
 
   pub link_room : (count ≡ 0 → ⊥) → k < first → first ≤ length N / 4 → leb count (length N / 4 - first) ≡ link_fits N k
   unfolding nodes
@@ -216,7 +191,7 @@ module _ (N : List ℕ) where
   abbrev pub Rest : ℕ → ℕ → ℕ → ℕ → ℕ → Type 0
   Rest left k first count i = within left N k ≡ each (λ j. within (left - 1) N j) (first + i) (count - i)
 
-  pub rest_all : (k left : ℕ) {n : Node} {count first : ℕ} → (left ≡ 0 → ⊥) → IsNode N k n → count ≡ count_of n.kind n.b n.c → first ≡ first_of n.kind n.a n.b → Rest left k first count 0
+  pub rest_all : (k left : ℕ) {n : Node} {count first : ℕ} → (left ≡ 0 → ⊥) → IsNode N k n → count ≡ count_named n → first ≡ first_named n → Rest left k first count 0
   unfolding within
   rest_all k left {n} {count} {first} z i c f =
       let e : left ≡ suc (left - 1) = omega (arith, z) in
@@ -224,7 +199,7 @@ module _ (N : List ℕ) where
       rw (add-zero first, d) (go (left - 1) e)
     where
       go : (g : ℕ) → left ≡ suc g → within left N k ≡ each (λ j. within (left - 1) N j) first count
-      go g e = let h : left - 1 ≡ g = omega arith in rw (h, e, its_count N k i c f, its_first N k i c f)
+      go g e = let h : left - 1 ≡ g = omega arith in rw (h, e) (each_named N k i c f (λ j. within g N j))
 
   module _ (left k first count i : ℕ) (h : Rest left k first count i) where
     step : i < count → within left N k ≡ within (left - 1) N (first + i) && each (λ j. within (left - 1) N j) (suc (first + i)) (count - (i + 1))
@@ -261,5 +236,5 @@ module _ (N : List ℕ) where
   all-fits e z f y g x = rw (← e, z, ← f, y, ← g, x)
 
 -- the numbers of the nodes that are named fit a word
-pub within_bound : (N : List ℕ) (k : ℕ) {n : Node} {count first : ℕ} (i : ℕ) → length N < 2 ^ 64 → links_fit N ≡ true → IsNode N k n → count ≡ count_of n.kind n.b n.c → first ≡ first_of n.kind n.a n.b → i < count → first + i < 2 ^ 64
+pub within_bound : (N : List ℕ) (k : ℕ) {n : Node} {count first : ℕ} (i : ℕ) → length N < 2 ^ 64 → links_fit N ≡ true → IsNode N k n → count ≡ count_named n → first ≡ first_named n → i < count → first + i < 2 ^ 64
 within_bound N k {n} {count} {first} i b h m c f l = elim (named_in N k h) [ inl z ↦ absurd (omega (arith, its_count N k m c f)) | inr z ↦ omega (arith, its_count N k m c f, its_first N k m c f) ]

@@ -1,3 +1,4 @@
 pub mod Row
+pub mod Names
 pub mod Refusal
 pub mod Depths

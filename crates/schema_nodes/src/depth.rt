@@ -4,7 +4,7 @@ ghost use Rattle.schema_tables.specs.Tests.{links_fit, within};
 ghost use Rattle.schema_nodes.specs.Depths.{Deepest};
 
 use super::DEEPEST;
-use super::node::{count_of, first_of, node_at};
+use super::node::node_at;
 
 // The least depth that no table has.
 const TOO_DEEP: usize = DEEPEST + 1;
@@ -22,13 +22,9 @@ pub fn depth_fits(nodes: &[u64]) -> bool
         return within(nodes, 0, DEEPEST);
     }
     let mut depths = [0usize; KEPT];
-    let mut k = n;
-    while k > 0 {
-        k -= 1;
-        let node = node_at(nodes, k);
-        let count = count_of(node) as usize;
-        let first = first_of(node) as usize;
-        depths[k] = 1 + deepest(&depths, first, count);
+    for k in (0..n).rev() {
+        let named = node_at(nodes, k).named();
+        depths[k] = 1 + deepest(&depths, named.first, named.count);
     }
     depths[0] <= DEEPEST
 }
@@ -39,18 +35,10 @@ fn deepest(depths: &[usize], first: usize, count: usize) -> usize
     ensures { Deepest depths.now first count result }
 {
     let mut d: usize = 0;
-    let mut i: usize = 0;
-    while i < count {
-        let e = depths[first + i];
-        if d < e {
-            d = e;
-        }
-        i += 1;
+    for i in 0..count {
+        d = d.max(depths[first + i]);
     }
-    if d < TOO_DEEP {
-        return d;
-    }
-    TOO_DEEP
+    d.min(TOO_DEEP)
 }
 
 // The depth of node k is at most `left`.
@@ -61,15 +49,11 @@ fn within(nodes: &[u64], k: usize, left: usize) -> bool
     if left == 0 {
         return false;
     }
-    let n = node_at(nodes, k);
-    let count = count_of(n) as usize;
-    let first = first_of(n) as usize;
-    let mut i: usize = 0;
-    while i < count {
-        if !within(nodes, first + i, left - 1) {
+    let named = node_at(nodes, k).named();
+    for i in 0..named.count {
+        if !within(nodes, named.first + i, left - 1) {
             return false;
         }
-        i += 1;
     }
     true
 }

@@ -1,25 +1,46 @@
-// The first refusal of a table: 17 an unknown kind or an empty range, then 15 a node number out of the table or not higher, then 16 a depth above 16.
+// What a table is refused for: an unknown kind or an empty range, then a node number out of the table or not higher, then a depth above 16.
 ghost use Rattle.std.specs.Prelude.{◌≡◌};
-ghost use Rattle.schema_tables.specs.Tests.{range_fits, kind_fits, kinds_fit, link_fits, links_fit};
-ghost use Rattle.schema_nodes.specs.Refusal.{refusal_of};
+ghost use Rattle.schema_tables.specs.Tests.{range_fits, kinds_fit, link_fits, links_fit};
+ghost use Rattle.schema_nodes.specs.Names.{leaf_fits, fits};
+ghost use Rattle.schema_nodes.specs.Refusal.{refusal_of, number, number_of};
 
 use super::depth::depth_fits;
-use super::node::{Node, count_of, first_of, node_at};
+use super::node::{Leaf, Node, node_at};
 
-// 0 where the table is not refused.
-pub fn refusal(nodes: &[u64]) -> u64
-    ensures { result ≡ refusal_of nodes.now }
+// By the test that fails.
+#[derive(Clone, Copy)]
+pub enum Refusal {
+    UnfitKinds,
+    UnfitLinks,
+    UnfitDepth,
+}
+
+impl Refusal {
+    pub fn number(self) -> u64
+        ensures { result ≡ number self }
+    {
+        match self {
+            Refusal::UnfitKinds => 17,
+            Refusal::UnfitLinks => 15,
+            Refusal::UnfitDepth => 16,
+        }
+    }
+}
+
+// The first refusal of a table.
+pub fn check_nodes(nodes: &[u64]) -> Result<(), Refusal>
+    ensures { number_of result ≡ refusal_of nodes.now }
 {
     if !kinds_fit(nodes) {
-        return 17;
+        return Err(Refusal::UnfitKinds);
     }
     if !links_fit(nodes) {
-        return 15;
+        return Err(Refusal::UnfitLinks);
     }
     if !depth_fits(nodes) {
-        return 16;
+        return Err(Refusal::UnfitDepth);
     }
-    0
+    Ok(())
 }
 
 // Whether the words, ends below zero as 2^64 less their magnitude, are in order.
@@ -30,25 +51,40 @@ fn range_fits(lo: u64, hi: u64) -> bool
         <= std::num::wrapping_add_u64(hi, 0x8000_0000_0000_0000)
 }
 
-// A known kind whose range is not empty.
-fn kind_fits(n: Node) -> bool
-    ensures { result ≡ kind_fits n.kind n.b n.c }
+// A range that is not empty.
+fn leaf_fits(leaf: Leaf) -> bool
+    ensures { result ≡ leaf_fits leaf }
 {
-    let b = n.b;
-    let c = n.c;
-    if n.kind == 0 {
-        return range_fits(b, c);
+    match leaf {
+        Leaf::Number {
+            tag: _,
+            lowest,
+            highest,
+        } => range_fits(lowest, highest),
+        Leaf::Name { tag: _, highest } => range_fits(0, highest),
+        Leaf::Text {
+            tag: _,
+            fewest,
+            most,
+        } => fewest <= most,
+        Leaf::Bits { tag: _, count: _ } => true,
     }
-    if n.kind == 1 {
-        return range_fits(0, b);
+}
+
+// A known kind whose range is not empty.
+fn fits(node: Node) -> bool
+    ensures { result ≡ fits node }
+{
+    match node {
+        Node::Leaf(leaf) => leaf_fits(leaf),
+        Node::Choice {
+            tag: _,
+            first: _,
+            count,
+        } => 1 <= count,
+        Node::Unknown => false,
+        _ => true,
     }
-    if n.kind == 2 {
-        return b <= c;
-    }
-    if n.kind == 5 {
-        return 1 <= c;
-    }
-    n.kind < 13
 }
 
 fn kinds_fit(nodes: &[u64]) -> bool
@@ -57,13 +93,10 @@ fn kinds_fit(nodes: &[u64]) -> bool
     if nodes.len() % 4 != 0 {
         return false;
     }
-    let n = nodes.len() / 4;
-    let mut k: usize = 0;
-    while k < n {
-        if !kind_fits(node_at(nodes, k)) {
+    for k in 0..nodes.len() / 4 {
+        if !fits(node_at(nodes, k)) {
             return false;
         }
-        k += 1;
     }
     true
 }
@@ -72,16 +105,14 @@ fn kinds_fit(nodes: &[u64]) -> bool
 fn link_fits(nodes: &[u64], k: usize) -> bool
     ensures { result ≡ link_fits nodes.now k }
 {
-    let n = node_at(nodes, k);
-    let count = count_of(n) as usize;
-    let first = first_of(n) as usize;
+    let named = node_at(nodes, k).named();
     let all = nodes.len() / 4;
-    if count == 0 {
+    if named.count == 0 {
         return true;
     }
-    if k < first {
-        if first <= all {
-            return count <= all - first;
+    if k < named.first {
+        if named.first <= all {
+            return named.count <= all - named.first;
         }
     }
     false
@@ -94,12 +125,10 @@ fn links_fit(nodes: &[u64]) -> bool
     if n == 0 {
         return false;
     }
-    let mut k: usize = 0;
-    while k < n {
+    for k in 0..n {
         if !link_fits(nodes, k) {
             return false;
         }
-        k += 1;
     }
     true
 }

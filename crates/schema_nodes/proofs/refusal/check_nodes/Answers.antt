@@ -1,6 +1,6 @@
 use Rattle.std.proofs.Common.{sym, ◌∙◌}
 use Rattle.schema_nodes.proofs.TestLaws.{no_kinds, no_links, too_deep, all-fits}
-use Rattle.schema_nodes.proofs.refusal.refusal.Goals as goal
+use Rattle.schema_nodes.proofs.refusal.check_nodes.Goals as goal
 
 pub returns-then-not-kinds_fit : goal.returns-then-not-kinds_fit
 returns-then-not-kinds_fit c = no_kinds _ c.kinds_fit.ensures c.if-not-kinds_fit.true
