@@ -18,8 +18,5 @@ pub fn emit(words: &mut [u64], n: usize, tag: u64, value: u64, second: u64, plac
         let at = n * WORDS;
         put_record(&mut words[at..], tag, 0, value, second, place as u64);
     }
-    if n == usize::MAX {
-        return n;
-    }
-    n + 1
+    n.saturating_add(1)
 }

@@ -1,7 +1,7 @@
 use borrow.Rule.Slice.PartMut.{put_mid, mid_of}
 use mathlib.Core.Path.{◌≡◌, ◌∙◌, sym}
 use mathlib.Core.List.{List, [], ◌∷◌, ◌++◌, append-nil}
-use Prim.Native.Nat.{ℕ, ◌+◌, ◌-◌, ◌*◌, ◌/◌, ◌≤◌, ◌<◌}
+use Prim.Native.Nat.{ℕ, ◌-◌, ◌*◌, ◌/◌, ◌≤◌, ◌<◌}
 use native.Mathlib.Nat.{le_refl}
 use native.Mathlib.Omega.{arith}
 use lib.ListN.{length, drop, length-drop, drop_of_length-le}
@@ -32,14 +32,6 @@ tail_long w n h =
 full : (w : List ℕ) (n : ℕ) (r : Rec) → length w / 5 ≤ n → w ≡ place_one w n r
 full w n r h = sym (place_none w n r (omega arith))
 
-at_top : (n : ℕ) → n ≡ 18446744073709551615 → n ≡ counted n 1
-unfolding counted
-at_top n h = omega arith
-
-below_top : (n : ℕ) → (n ≡ 18446744073709551615 → ⊥) → n ≤ 18446744073709551615 → n + 1 ≡ counted n 1
-unfolding counted
-below_top n h l = omega (arith, h)
-
 pub put_record-requires : goal.put_record-requires
 put_record-requires c = tail_long c.args.words.now c.args.n c.if-n-words.true
 
@@ -52,14 +44,9 @@ told c =
       | else-n-words w ↦ w.words-is ∙ full a.words.now a.n (rec a.tag 0 a.value a.second a.place) w.if-n-words.false
     ]
 
-pub shape_of-words-then-n-eq18446744073709551615 : goal.shape_of-words-then-n-eq18446744073709551615
-shape_of-words-then-n-eq18446744073709551615 c = rw (told (goal.at.shape_of-words-then-n-eq18446744073709551615 c).Joined-n-words) (one-length _ _ _)
-
-pub returns-then-n-eq18446744073709551615 : goal.returns-then-n-eq18446744073709551615
-returns-then-n-eq18446744073709551615 c = record { count = at_top _ c.if-n-eq18446744073709551615.true; words = told (goal.at.returns-then-n-eq18446744073709551615 c).Joined-n-words }
-
 pub shape_of-words : goal.shape_of-words
 shape_of-words c = rw (told (goal.at.shape_of-words c).Joined-n-words) (one-length _ _ _)
 
 pub returns : goal.returns
-returns c = record { count = below_top _ c.if-n-eq18446744073709551615.false (search rules); words = told (goal.at.returns c).Joined-n-words }
+unfolding counted
+returns c = record { count = search rules; words = told (goal.at.returns c).Joined-n-words }
