@@ -2,17 +2,20 @@
 use mathlib.Core.Path.{◌≡◌, refl, sym, ap, ◌∙◌}
 use mathlib.Core.Bool.{Bool, true, false, cond}
 use mathlib.Core.List.{List, [], ◌∷◌}
-use Prim.Native.Nat.{ℕ, zero, suc, ◌+◌, ◌*◌, ◌≤◌, ◌<◌}
+use Prim.Native.Nat.{ℕ, zero, suc, ◌+◌, ◌-◌, ◌*◌, ◌≤◌, ◌<◌}
 use native.Mathlib.Nat.{add-zero}
 use native.Mathlib.Numerals.{add-one}
 use native.Mathlib.Omega.{arith}
 use lib.ListN.{length, take, drop, length-drop}
+use lib.Dec.{eqb}
+use lib.Pointwise.{pointwise}
 use lib.Seq.{get_or-take, get_or-drop, drop-drop, length-take-le}
 use Rattle.atn.specs.Entries.{flat, need}
 use Rattle.atn.specs.Reading.{Rec, rec}
 use Rattle.atn.proofs.Outcomes.{flat-need}
 use Rattle.list_comparison.specs.declared.Checked.TheVariants.{Yes, Differs, Missing, TooMany, Incomplete}
 use Rattle.list_comparison.specs.Compared.{alike, compared}
+use Rattle.list_comparison.proofs.AlikeLaws.{five}
 
 module _ (i : ℕ) where
   ended : (l : List ℕ) → length l ≡ 0 → compared i [] l ≡ Yes
@@ -64,6 +67,10 @@ alike-drop a b at = rw (get_or-drop at a 0 0, get_or-drop at a 1 0, get_or-drop 
 alike-take : (k : ℕ) (a b : List ℕ) (at : ℕ) → at + 5 ≤ k → alike (take k a) b at ≡ alike a b at
 unfolding alike
 alike-take k a b at h = rw (get_or-take k a at 0 (omega arith), get_or-take k a (at + 1) 0 (omega arith), get_or-take k a (at + 2) 0 (omega arith), get_or-take k a (at + 3) 0 (omega arith), get_or-take k a (at + 4) 0 (omega arith))
+
+-- the five words from a place on, as the loop takes them
+pub slices : (a b : List ℕ) (at : ℕ) → at + 5 ≤ length a → at + 5 ≤ length b → pointwise eqb (take (at + 5 - at) (drop at a)) (take (at + 5 - at) (drop at b)) ≡ alike a b at
+slices a b at h g = let e : at + 5 - at ≡ 5 = omega arith in rw e (five (drop at a) (drop at b) (omega (arith, length-drop at a)) (omega (arith, length-drop at b)) ∙ sym (alike-drop a b at))
 
 ---------------------------------------------------------------- the loop
 
