@@ -1,52 +1,32 @@
--- Nodes that name none, by their kinds.
+-- Parts that hold no others.
 use mathlib.Core.Path.{◌≡◌, refl, ◌∙◌}
-use mathlib.Core.Bool.{true}
 use mathlib.Core.List.{List, [], ◌∷◌}
-use Prim.Native.Nat.{ℕ, ◌≤◌, ◌<◌}
+use Prim.Native.Nat.{ℕ, ◌≤◌}
 use native.Mathlib.Omega.{arith}
-use lib.Dec.{leb}
-use borrow.Author.Tests.{eq-eqb, leb-true}
-use Rattle.x691.specs.Bits.{bit_of}
-use Rattle.atn.specs.Format.{Fmt, num, name, text, first, span, bad}
-use Rattle.atn.specs.Reading.{rec, ok, stop, or, mark, read}
+use borrow.Author.Tests.{eq-eqb}
+use Rattle.atn.specs.Format.{Fmt, bad}
+use Rattle.atn.specs.Reading.{rec, ok, stop, or, mark}
 use Rattle.cursor.specs.declared.place.Cursor.{Cursor}
 use Rattle.cursor.specs.Place.{put, stopped, marked}
-use Rattle.schema_tables.specs.Nodes.{format_of}
-use Rattle.schema_tables.specs.Tests.{kind_fits}
+use Rattle.schema_tables.specs.Nodes.{node_word, format_of}
+use Rattle.schema_nodes.specs.declared.node.Leaf.{Leaf}
+use Rattle.schema_nodes.specs.declared.node.Leaf.TheVariants.{Number, Name, Text, Bits}
+use Rattle.schema_nodes.specs.declared.node.Node.TheVariants.{Leaf as leaf}
+use Rattle.schema_nodes.specs.Row.{IsNode}
+use Rattle.schema_parts.specs.Owed.{leaf_format}
 use Rattle.capped_records.specs.Place.{Put}
 use Rattle.schema_leaves.specs.declared.Step.{Step}
 use Rattle.schema_leaves.specs.Came.{Came}
 use Rattle.schema_leaves.proofs.CameLaws.{at, came_stopped, came_told}
 use Rattle.schema_leaves.proofs.NumberLaws.{goes_marked}
 
-module _ (k a b c : ℕ) (F : ℕ → Fmt) (N : List ℕ) (j : ℕ) where
-  pub number_format : k ≡ 0 → format_of F N j k a b c ≡ num a b c
-  unfolding format_of
-  number_format e = rw e
-
-  pub name_format : k ≡ 1 → format_of F N j k a b c ≡ name a b
-  unfolding format_of
-  name_format e = rw e
-
-  pub text_format : k ≡ 2 → format_of F N j k a b c ≡ text a 128 (first 0) b c
-  unfolding format_of
-  text_format e = rw e
-
-  pub bits_format : k ≡ 3 → format_of F N j k a b c ≡ span a 1 b b
-  unfolding format_of
-  bits_format e = rw e
-
-pub text_sizes : (k b c : ℕ) → k ≡ 2 → kind_fits k b c ≡ true → b ≤ c
-unfolding kind_fits
-text_sizes k b c e h =
-    let z : leb b c ≡ true = rw e at h in
-    leb-true b c z
-
-pub last_leaf : (k : ℕ) → k < 4 → (k ≡ 0 → ⊥) → (k ≡ 1 → ⊥) → (k ≡ 2 → ⊥) → k ≡ 3
-last_leaf k l n₀ n₁ n₂ = omega (arith, n₀, n₁, n₂)
-
-pub read_as : {f g : Fmt} (s : List ℕ) {a z : Step} {w w' : List ℕ} → g ≡ f → Came (read f (0, 0) (bit_of s) a.c.end a.c.at) a w z w' → Came (read g (0, 0) (bit_of s) a.c.end a.c.at) a w z w'
-read_as s e h = rw e h
+-- the format of a node by its words
+pub leaf_is : (F : ℕ → Fmt) (N : List ℕ) (k : ℕ) (l : Leaf) → IsNode N k (leaf l) → format_of F N k (node_word N k 0) (node_word N k 1) (node_word N k 2) (node_word N k 3) ≡ leaf_format l
+unfolding format_of
+leaf_is F N k (Number tag lowest highest) i = rw (i.words.0, i.words.1, i.words.2, i.words.3)
+leaf_is F N k (Name tag highest) i = rw (i.words.0, i.words.1, i.words.2)
+leaf_is F N k (Text tag fewest most) i = rw (i.words.0, i.words.1, i.words.2, i.words.3)
+leaf_is F N k (Bits tag count) i = rw (i.words.0, i.words.1, i.words.2)
 
 pub refused : (a : Step) {c : Cursor} (m : ℕ) → a.c.why ≡ 0 → c ≡ stopped a.c 5 m → (w : List ℕ) → a.c.at ≤ a.c.end → Came (stop bad a.c.at [] m) a w (at c 0) w
 unfolding stopped

@@ -1,20 +1,20 @@
 -- The members of a sequence, one after another.
 use mathlib.Core.Path.{◌≡◌, refl, sym, ap, ◌∙◌}
-use mathlib.Core.Bool.{Bool, true, false}
 use mathlib.Core.List.{List, []}
 use Prim.Native.Nat.{ℕ, zero, suc, ◌+◌, ◌-◌, ◌≤◌, ◌<◌}
 use native.Mathlib.Nat.{add-zero}
 use native.Mathlib.Omega.{arith}
-use lib.Dec.{eqb}
-use borrow.Author.Tests.{eqb-true, eq-eqb, ne_eqb}
+use borrow.Author.Tests.{ne_eqb}
 use Rattle.x691.specs.Bits.{bit_of, uint}
 use Rattle.x691.proofs.BitLaws.{uint-one}
-use Rattle.atn.specs.Format.{Fmt, Flds, end}
+use Rattle.atn.specs.Format.{Fmt, Flds, end, ◌⨾◌, ◌⨾?◌, unread}
 use Rattle.atn.specs.Reading.{Ans, ok, or, mark, then, fork, flags, unread_mark, unread_marks, read, read_fields}
 use Rattle.atn.proofs.Marks.{or_nil, or_assoc, or_commutes}
 use Rattle.atn.proofs.Steps.{then-nil}
 use Rattle.schema_tables.specs.Nodes.{node_word, member_of, members_from}
+use Rattle.schema_nodes.specs.declared.node.Leaf.TheVariants.{Number, Name, Text, Bits}
 use Rattle.schema_nodes.specs.declared.node.Node.{Node}
+use Rattle.schema_nodes.specs.declared.node.Node.TheVariants.{Leaf as leaf, Sequence, Choice, Optional, Unread, NoReader, Unlisted, Extension, Headed, Other, Unknown}
 use Rattle.schema_nodes.specs.Row.{IsNode}
 use Rattle.schema_parts.specs.Member.{flag_of, mark_of, member_read}
 
@@ -24,82 +24,95 @@ omega_next q = omega arith
 pub or-zero : (m : ℕ) → or 0 m ≡ m
 or-zero m = or_commutes 0 m ∙ or_nil m
 
--- an optional member, an unread one, any other
-data Sort (kind : ℕ) : Type 0 where
-  may : kind ≡ 6 → Sort kind
-  left : kind ≡ 7 → Sort kind
-  must : (kind ≡ 6 → ⊥) → (kind ≡ 7 → ⊥) → Sort kind
+pub flag_few : (n : Node) → flag_of n ≤ 1
+flag_few (leaf l) = omega arith
+flag_few (Sequence first count) = omega arith
+flag_few (Choice tag first count) = omega arith
+flag_few (Optional node) = omega arith
+flag_few (Unread tag) = omega arith
+flag_few NoReader = omega arith
+flag_few Unlisted = omega arith
+flag_few (Extension node tag) = omega arith
+flag_few (Headed tag node) = omega arith
+flag_few (Other node) = omega arith
+flag_few Unknown = omega arith
 
-sort : (kind : ℕ) → Sort kind
-sort kind = go (eqb kind 6) (eqb kind 7) refl refl
-  where
-    go : (t u : Bool) → eqb kind 6 ≡ t → eqb kind 7 ≡ u → Sort kind
-    go true u p q = may (eqb-true kind 6 p)
-    go false true p q = left (eqb-true kind 7 q)
-    go false false p q = must (λ e. absurd (let z : ◌≡◌ {A = ℕ} 0 1 = (let y = eq-eqb kind 6 e in cc) in omega arith)) (λ e. absurd (let z : ◌≡◌ {A = ℕ} 0 1 = (let y = eq-eqb kind 7 e in cc) in omega arith))
+module _ (b : ℕ → ℕ) (q : ℕ) where
+  pub mark-clear : {v : ℕ} → v ≡ b q → v ≡ 0 → 0 ≡ unread_mark (b q)
+  unfolding unread_mark
+  mark-clear e z = let y : b q ≡ 0 = sym e ∙ z in rw y refl
 
----------------------------------------------------------------- by its kind
-
-module _ {kind : ℕ} where
-  pub flag_may : kind ≡ 6 → 1 ≡ flag_of kind
-  unfolding flag_of
-  flag_may e = rw e refl
-
-  pub flag_left : kind ≡ 7 → 1 ≡ flag_of kind
-  unfolding flag_of
-  flag_left e = rw e refl
-
-  pub flag_must : (kind ≡ 6 → ⊥) → (kind ≡ 7 → ⊥) → 0 ≡ flag_of kind
-  unfolding flag_of
-  flag_must n m = rw (ne_eqb kind 6 n, ne_eqb kind 7 m)
-
-pub flag_few : (kind : ℕ) → flag_of kind ≤ 1
-unfolding flag_of
-flag_few kind = go (sort kind)
-  where
-    go : Sort kind → flag_of kind ≤ 1
-    go (may e) = omega (arith, flag_may e)
-    go (left e) = omega (arith, flag_left e)
-    go (must n m) = omega (arith, flag_must n m)
-
-module _ {kind : ℕ} (b : ℕ → ℕ) (q : ℕ) where
-  pub mark-clear : {v : ℕ} → kind ≡ 7 → v ≡ b q → v ≡ 0 → 0 ≡ mark_of kind b q
-  unfolding mark_of unread_mark
-  mark-clear e p z = let y : b q ≡ 0 = sym p ∙ z in rw (e, y) refl
-
-  pub mark_set : {v : ℕ} → kind ≡ 7 → v ≡ b q → (v ≡ 0 → ⊥) → 8 ≡ mark_of kind b q
-  unfolding mark_of unread_mark mark
-  mark_set {v} e p n = let y : b q ≡ suc (v - 1) = omega (arith, n) in rw (e, y) refl
-
-  pub mark-none : (kind ≡ 7 → ⊥) → 0 ≡ mark_of kind b q
-  unfolding mark_of
-  mark-none n = rw (ne_eqb kind 7 n)
+  pub mark_set : {v : ℕ} → v ≡ b q → (v ≡ 0 → ⊥) → 8 ≡ unread_mark (b q)
+  unfolding unread_mark mark
+  mark_set {v} e n = let y : b q ≡ suc (v - 1) = omega (arith, n) in rw y refl
 
 ---------------------------------------------------------------- the first member apart
 
-module _ (F : ℕ → Fmt) (fs : Flds) (kind k a : ℕ) where
-  member-flags : flags (member_of F fs kind k a) ≡ flag_of kind + flags fs
-  unfolding member_of flags flag_of
-  member-flags = go (sort kind)
+-- a member before others
+abbrev member : (ℕ → Fmt) → Flds → Node → ℕ → Flds
+member F fs (Optional node) k = F node ⨾? fs
+member F fs (Unread tag) k = unread tag fs
+member F fs n k = F k ⨾ fs
+
+member_is : (F : ℕ → Fmt) (fs : Flds) (N : List ℕ) (k : ℕ) (n : Node) → IsNode N k n → member_of F fs (node_word N k 0) k (node_word N k 1) ≡ member F fs n k
+unfolding member_of
+member_is F fs N k (leaf (Number tag lowest highest)) i = rw i.words.0
+member_is F fs N k (leaf (Name tag highest)) i = rw i.words.0
+member_is F fs N k (leaf (Text tag fewest most)) i = rw i.words.0
+member_is F fs N k (leaf (Bits tag count)) i = rw i.words.0
+member_is F fs N k (Sequence first count) i = rw i.words.0
+member_is F fs N k (Choice tag first count) i = rw i.words.0
+member_is F fs N k (Optional node) i = rw (i.words.0, i.words.1)
+member_is F fs N k (Unread tag) i = rw (i.words.0, i.words.1)
+member_is F fs N k NoReader i = rw i.words
+member_is F fs N k Unlisted i = rw i.words
+member_is F fs N k (Extension node tag) i = rw i.words.0
+member_is F fs N k (Headed tag node) i = rw i.words.0
+member_is F fs N k (Other node) i = rw i.words.0
+member_is F fs N k Unknown i = rw (ne_eqb (node_word N k 0) 6 (λ e. omega (arith, e, i.words)), ne_eqb (node_word N k 0) 7 (λ e. omega (arith, e, i.words)))
+
+-- an optional member, an unread one, any other
+data Sort (F : ℕ → Fmt) (n : Node) (k : ℕ) : Type 0 where
+  may : (m : ℕ) → n ≡ Optional m → Sort F n k
+  left : (t : ℕ) → n ≡ Unread t → Sort F n k
+  must : flag_of n ≡ 0 → ((b : ℕ → ℕ) (q : ℕ) → mark_of n b q ≡ 0) → ((fs : Flds) → member F fs n k ≡ (F k ⨾ fs)) → ((b : ℕ → ℕ) (e q at : ℕ) → member_read F n k b e q at ≡ read (F k) (0, 0) b e at) → Sort F n k
+
+sort : (F : ℕ → Fmt) (n : Node) (k : ℕ) → Sort F n k
+sort F (leaf l) k = must refl (λ b q. refl) (λ fs. refl) (λ b e q at. refl)
+sort F (Sequence first count) k = must refl (λ b q. refl) (λ fs. refl) (λ b e q at. refl)
+sort F (Choice tag first count) k = must refl (λ b q. refl) (λ fs. refl) (λ b e q at. refl)
+sort F (Optional node) k = may node refl
+sort F (Unread tag) k = left tag refl
+sort F NoReader k = must refl (λ b q. refl) (λ fs. refl) (λ b e q at. refl)
+sort F Unlisted k = must refl (λ b q. refl) (λ fs. refl) (λ b e q at. refl)
+sort F (Extension node tag) k = must refl (λ b q. refl) (λ fs. refl) (λ b e q at. refl)
+sort F (Headed tag node) k = must refl (λ b q. refl) (λ fs. refl) (λ b e q at. refl)
+sort F (Other node) k = must refl (λ b q. refl) (λ fs. refl) (λ b e q at. refl)
+sort F Unknown k = must refl (λ b q. refl) (λ fs. refl) (λ b e q at. refl)
+
+module _ (F : ℕ → Fmt) (fs : Flds) (n : Node) (k : ℕ) where
+  member-flags : flags (member F fs n k) ≡ flag_of n + flags fs
+  unfolding flags
+  member-flags = go (sort F n k)
     where
-      go : Sort kind → flags (member_of F fs kind k a) ≡ flag_of kind + flags fs
-      go (may e) = rw e (omega arith)
-      go (left e) = rw e (omega arith)
-      go (must n m) = rw (ne_eqb kind 6 n, ne_eqb kind 7 m) (omega arith)
+      go : Sort F n k → flags (member F fs n k) ≡ flag_of n + flags fs
+      go (may m e) = rw e (omega arith)
+      go (left t e) = rw e (omega arith)
+      go (must f m g r) = rw (g fs, f) (omega arith)
 
   module _ (b : ℕ → ℕ) (q : ℕ) where
-    member_marks : unread_marks (member_of F fs kind k a) b q ≡ or (mark_of kind b q) (unread_marks fs b (q + flag_of kind))
-    unfolding member_of unread_marks mark_of flag_of
-    member_marks = go (sort kind)
+    member_marks : unread_marks (member F fs n k) b q ≡ or (mark_of n b q) (unread_marks fs b (q + flag_of n))
+    unfolding unread_marks
+    member_marks = go (sort F n k)
       where
-        go : Sort kind → unread_marks (member_of F fs kind k a) b q ≡ or (mark_of kind b q) (unread_marks fs b (q + flag_of kind))
-        go (may e) = rw e (rw (omega_next q) (sym (or-zero (unread_marks fs b (suc q)))))
-        go (left e) = rw e (rw (omega_next q))
-        go (must n m) = rw (ne_eqb kind 6 n, ne_eqb kind 7 m, add-zero q) (sym (or-zero (unread_marks fs b q)))
+        go : Sort F n k → unread_marks (member F fs n k) b q ≡ or (mark_of n b q) (unread_marks fs b (q + flag_of n))
+        go (may m e) = rw e (rw (omega_next q) (sym (or-zero (unread_marks fs b (suc q)))))
+        go (left t e) = rw e (rw (omega_next q))
+        go (must f m g r) = rw (g fs, f, m b q, add-zero q) (sym (or-zero (unread_marks fs b q)))
 
-    member-then : (e at : ℕ) → read_fields (member_of F fs kind k a) (0, 0) b e q at ≡ then (member_read F kind k a b e q at) λ p. read_fields fs (0, 0) b e (q + flag_of kind) p
-    unfolding member_of read member_read flag_of fork then
-    member-then e at = go (sort kind)
+    member-then : (e at : ℕ) → read_fields (member F fs n k) (0, 0) b e q at ≡ then (member_read F n k b e q at) λ p. read_fields fs (0, 0) b e (q + flag_of n) p
+    unfolding read fork then
+    member-then e at = go (sort F n k)
       where
         rest : ℕ → ℕ → Ans
         rest r p = read_fields fs (0, 0) b e r p
@@ -108,10 +121,10 @@ module _ (F : ℕ → Fmt) (fs : Flds) (kind k a : ℕ) where
         by_bit zero x = sym (then-nil at (λ p. rest (suc q) p))
         by_bit (suc v) x = refl
 
-        go : Sort kind → read_fields (member_of F fs kind k a) (0, 0) b e q at ≡ then (member_read F kind k a b e q at) λ p. read_fields fs (0, 0) b e (q + flag_of kind) p
-        go (may i) = rw i (rw (omega_next q) (by_bit (b q) _))
-        go (left i) = rw i (rw (omega_next q) (by_bit (b q) _))
-        go (must n m) = rw (ne_eqb kind 6 n, ne_eqb kind 7 m, add-zero q)
+        go : Sort F n k → read_fields (member F fs n k) (0, 0) b e q at ≡ then (member_read F n k b e q at) λ p. read_fields fs (0, 0) b e (q + flag_of n) p
+        go (may m i) = rw i (rw (omega_next q) (by_bit (b q) _))
+        go (left t i) = rw i (rw (omega_next q) (by_bit (b q) _))
+        go (must f m g r) = rw (g fs, f, r b e q at, add-zero q)
 
 ---------------------------------------------------------------- those from the one numbered i on
 
@@ -134,17 +147,17 @@ module _ (F : ℕ → Fmt) (N : List ℕ) (first count : ℕ) where
       rw (e, f)
 
   module _ (i : ℕ) (h : i < count) {n : Node} (node : IsNode N (first + i) n) where
-    as_node : from i ≡ member_of F (from (i + 1)) n.kind (first + i) n.a
-    as_node = from_next i h ∙ rw node
+    as_node : from i ≡ member F (from (i + 1)) n (first + i)
+    as_node = from_next i h ∙ member_is F (from (i + 1)) N (first + i) n node
 
-    pub flags-next : flags (from i) ≡ flag_of n.kind + flags (from (i + 1))
-    flags-next = ap flags as_node ∙ member-flags F (from (i + 1)) n.kind (first + i) n.a
+    pub flags-next : flags (from i) ≡ flag_of n + flags (from (i + 1))
+    flags-next = ap flags as_node ∙ member-flags F (from (i + 1)) n (first + i)
 
-    pub marks_next : (b : ℕ → ℕ) (q : ℕ) → unread_marks (from i) b q ≡ or (mark_of n.kind b q) (unread_marks (from (i + 1)) b (q + flag_of n.kind))
-    marks_next b q = ap (λ f. unread_marks f b q) as_node ∙ member_marks F (from (i + 1)) n.kind (first + i) n.a b q
+    pub marks_next : (b : ℕ → ℕ) (q : ℕ) → unread_marks (from i) b q ≡ or (mark_of n b q) (unread_marks (from (i + 1)) b (q + flag_of n))
+    marks_next b q = ap (λ f. unread_marks f b q) as_node ∙ member_marks F (from (i + 1)) n (first + i) b q
 
-    pub read_next : (b : ℕ → ℕ) (q e at : ℕ) → read_fields (from i) (0, 0) b e q at ≡ then (member_read F n.kind (first + i) n.a b e q at) λ p. read_fields (from (i + 1)) (0, 0) b e (q + flag_of n.kind) p
-    read_next b q e at = ap (λ f. read_fields f (0, 0) b e q at) as_node ∙ member-then F (from (i + 1)) n.kind (first + i) n.a b q e at
+    pub read_next : (b : ℕ → ℕ) (q e at : ℕ) → read_fields (from i) (0, 0) b e q at ≡ then (member_read F n (first + i) b e q at) λ p. read_fields (from (i + 1)) (0, 0) b e (q + flag_of n) p
+    read_next b q e at = ap (λ f. read_fields f (0, 0) b e q at) as_node ∙ member-then F (from (i + 1)) n (first + i) b q e at
 
 ---------------------------------------------------------------- the loops
 
@@ -157,8 +170,8 @@ module _ (N : List ℕ) (first count : ℕ) where
   pub counts-none : Counts 0 0
   counts-none = record { few = omega arith; all = λ F. omega (arith, ap flags (from_all F N first count)) }
 
-  pub counts-more : {bits i f : ℕ} {n : Node} → i < count → IsNode N (first + i) n → f ≡ flag_of n.kind → Counts bits i → Counts (bits + f) (i + 1)
-  counts-more {bits} {i} {f} {n} h node e x = record { few = omega (arith, flag_few n.kind, x.few); all = λ F. omega (arith, x.all F, flags-next F N first count i h node) }
+  pub counts-more : {bits i f : ℕ} {n : Node} → i < count → IsNode N (first + i) n → f ≡ flag_of n → Counts bits i → Counts (bits + f) (i + 1)
+  counts-more {bits} {i} {f} {n} h node e x = record { few = omega (arith, flag_few n, x.few); all = λ F. omega (arith, x.all F, flags-next F N first count i h node) }
 
   pub counts_all : {bits i : ℕ} → count ≤ i → Counts bits i → (F : ℕ → Fmt) → bits ≡ flags (members_from F N first count)
   unfolding flags
@@ -173,14 +186,14 @@ module _ (N : List ℕ) (first count : ℕ) where
     pub marked-none : ((F : ℕ → Fmt) → at + flags (members_from F N first count) ≤ l) → Marked 0 at 0
     marked-none h = record { room = λ F. rw (from_all F N first count) (h F); all = λ F. rw (from_all F N first count) (or-zero (unread_marks (members_from F N first count) b at)) }
 
-    pub marked-room : {marks q i : ℕ} {n : Node} → i < count → IsNode N (first + i) n → Marked marks q i → (F : ℕ → Fmt) → q + flag_of n.kind ≤ l
+    pub marked-room : {marks q i : ℕ} {n : Node} → i < count → IsNode N (first + i) n → Marked marks q i → (F : ℕ → Fmt) → q + flag_of n ≤ l
     marked-room {i = i} h node x F = omega (arith, x.room F, flags-next F N first count i h node)
 
-    pub marked_more : {marks m f q i : ℕ} {n : Node} → i < count → IsNode N (first + i) n → m ≡ mark_of n.kind b q → f ≡ flag_of n.kind → Marked marks q i → Marked (or marks m) (q + f) (i + 1)
+    pub marked_more : {marks m f q i : ℕ} {n : Node} → i < count → IsNode N (first + i) n → m ≡ mark_of n b q → f ≡ flag_of n → Marked marks q i → Marked (or marks m) (q + f) (i + 1)
     marked_more {marks} {m} {f} {q} {i} {n} h node e g x =
         record {
           room = λ F. omega (arith, x.room F, flags-next F N first count i h node);
-          all = λ F. rw (e, g, or_assoc marks (mark_of n.kind b q) (unread_marks (from F N first count (i + 1)) b (q + flag_of n.kind)), ← marks_next F N first count i h node b q) (x.all F);
+          all = λ F. rw (e, g, or_assoc marks (mark_of n b q) (unread_marks (from F N first count (i + 1)) b (q + flag_of n)), ← marks_next F N first count i h node b q) (x.all F);
         }
 
     pub marked_all : {marks q i : ℕ} → count ≤ i → Marked marks q i → (F : ℕ → Fmt) → marks ≡ unread_marks (members_from F N first count) b at

@@ -1,16 +1,20 @@
 -- What is owed of nodes, whatever the nodes mean that they name.
 use Rattle.std.specs.Prelude.{◌≡◌, List, [], ℕ, ◌+◌, ◌≤◌}
-use Rattle.x691.specs.Bits.{bit_of}
-use Rattle.atn.specs.Format.{Fmt, bad}
-use Rattle.atn.specs.Reading.{stop, flags, unread_marks, read}
-use Rattle.schema_tables.specs.Nodes.{members_from, format_of}
-use Rattle.schema_nodes.specs.declared.node.Node.{Node}
+use Rattle.atn.specs.Format.{Fmt, num, name, span, bad}
+use Rattle.atn.specs.Messages.{ia5}
+use Rattle.atn.specs.Reading.{stop, flags, unread_marks}
+use Rattle.schema_tables.specs.Nodes.{members_from}
+use Rattle.schema_nodes.specs.declared.node.Leaf.{Leaf}
+use Rattle.schema_nodes.specs.declared.node.Leaf.TheVariants.{Number, Name, Text, Bits}
 use Rattle.schema_leaves.specs.declared.Step.{Step}
 use Rattle.schema_leaves.specs.Came.{Came}
 
--- a node that names none was read
-pub record Leaf (s : List ℕ) (n : Node) (a : Step) (w : List ℕ) (z : Step) (w' : List ℕ) : Type 0 where
-  pub leaf : (F : ℕ → Fmt) (N : List ℕ) (k : ℕ) → Came (read (format_of F N k n.kind n.a n.b n.c) (0, 0) (bit_of s) a.c.end a.c.at) a w z w'
+-- the format of a part that holds no others
+abbrev pub leaf_format : Leaf → Fmt
+leaf_format (Number tag lowest highest) = num tag lowest highest
+leaf_format (Name tag highest) = name tag highest
+leaf_format (Text tag fewest most) = ia5 tag fewest most
+leaf_format (Bits tag count) = span tag 1 count count
 
 -- the reading stopped, badly formed
 pub record Refuses (m : ℕ) (a z : Step) : Type 0 where

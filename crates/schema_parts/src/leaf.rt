@@ -1,33 +1,33 @@
-// Nodes that name none.
-ghost use Rattle.std.specs.Prelude.{◌≡◌, true, [], ◌∷◌, ◌<◌, ◌≤◌};
-ghost use Rattle.atn.specs.Reading.{rec, ok, mark};
-ghost use Rattle.schema_tables.specs.Tests.{kind_fits};
+// Parts that hold no others.
+ghost use Rattle.std.specs.Prelude.{◌≡◌, true, [], ◌∷◌, ◌≤◌};
+ghost use Rattle.x691.specs.Bits.{bit_of};
+ghost use Rattle.atn.specs.Reading.{rec, ok, mark, read};
+ghost use Rattle.schema_nodes.specs.Names.{leaf_fits};
 ghost use Rattle.schema_leaves.specs.Came.{Open, Came};
-ghost use Rattle.schema_parts.specs.Owed.{Leaf, Refuses};
+ghost use Rattle.schema_parts.specs.Owed.{leaf_format, Refuses};
 
 use capped_records::emit;
 use cursor::place::{mark, stop};
 use schema_leaves::Step;
 use schema_leaves::numbers::{take_name, take_number};
 use schema_leaves::strings::{take_bits, take_text};
-use schema_nodes::node::Node;
+use schema_nodes::node::Leaf;
 
 // A number, a name, a text or bits.
-pub fn read_leaf(s: &[u8], words: &mut [u64], node: Node, at: Step) -> Step
-    requires { Open s.now at × (node.kind < 4) × (kind_fits node.kind node.b node.c ≡ true) }
-    ensures { Leaf s.now node at words.old result words.new }
+pub fn read_leaf(s: &[u8], words: &mut [u64], leaf: Leaf, at: Step) -> Step
+    requires { Open s.now at × (leaf_fits leaf ≡ true) }
+    ensures { Came (read (leaf_format leaf) (0, 0) (bit_of s.now) at.c.end at.c.at) at words.old result words.new }
 {
-    let kind = node.kind;
-    if kind == 0 {
-        return take_number(s, words, at, node.a, node.b, node.c);
+    match leaf {
+        Leaf::Number {
+            tag,
+            lowest,
+            highest,
+        } => take_number(s, words, at, tag, lowest, highest),
+        Leaf::Name { tag, highest } => take_name(s, words, at, tag, highest),
+        Leaf::Text { tag, fewest, most } => take_text(s, words, at, tag, fewest, most),
+        Leaf::Bits { tag, count } => take_bits(s, words, at, tag, count),
     }
-    if kind == 1 {
-        return take_name(s, words, at, node.a, node.b);
-    }
-    if kind == 2 {
-        return take_text(s, words, at, node.a, node.b, node.c);
-    }
-    take_bits(s, words, at, node.a, node.b)
 }
 
 // The reading stops here: what has no reader.

@@ -5,19 +5,17 @@ ghost use Rattle.schema_parts.specs.Member.{flag_of, mark_of};
 ghost use Rattle.schema_parts.specs.Owed.{Presence, Ahead, Unread};
 
 use per::number::uint;
-use schema_nodes::node::node_at;
+use schema_nodes::node::{Node, node_at};
 
-// The presence bits of a member of this kind: one, or none.
-pub fn flag_of(kind: u64) -> usize
-    ensures { result ≡ flag_of kind }
+// The presence bits of a member: one, or none.
+pub fn flag_of(node: Node) -> usize
+    ensures { result ≡ flag_of node }
 {
-    if kind == 6 {
-        return 1;
+    match node {
+        Node::Optional { node: _ } => 1,
+        Node::Unread { tag: _ } => 1,
+        _ => 0,
     }
-    if kind == 7 {
-        return 1;
-    }
-    0
 }
 
 // The presence bits of the members from node `first` on.
@@ -26,11 +24,9 @@ pub fn presence_bits(nodes: &[u64], first: usize, count: usize) -> usize
     ensures { Presence nodes.now first count result }
 {
     let mut bits: usize = 0;
-    let mut i: usize = 0;
-    while i < count {
+    for i in 0..count {
         let node = node_at(nodes, first + i);
-        bits += flag_of(node.kind);
-        i += 1;
+        bits += flag_of(node);
     }
     bits
 }
@@ -44,17 +40,19 @@ pub fn bit(s: &[u8], at: usize) -> u64
 }
 
 // Mark 4 for a member that is not read, where its presence bit at q is set.
-fn unread_mark(s: &[u8], kind: u64, q: usize) -> u64
-    requires { q + flag_of kind ≤ length s.now * 8 }
-    ensures { result ≡ mark_of kind (bit_of s.now) q }
+fn unread_mark(s: &[u8], node: Node, q: usize) -> u64
+    requires { q + flag_of node ≤ length s.now * 8 }
+    ensures { result ≡ mark_of node (bit_of s.now) q }
 {
-    if kind == 7 {
-        if bit(s, q) == 0 {
-            return 0;
+    match node {
+        Node::Unread { tag: _ } => {
+            if bit(s, q) == 0 {
+                return 0;
+            }
+            8
         }
-        return 8;
+        _ => 0,
     }
-    0
 }
 
 // The marks of the members from node `first` on, whose presence bits stand from `at` on.
@@ -64,13 +62,10 @@ pub fn unread_marks(s: &[u8], nodes: &[u64], first: usize, count: usize, at: usi
 {
     let mut marks: u64 = 0;
     let mut q = at;
-    let mut i: usize = 0;
-    while i < count {
+    for i in 0..count {
         let node = node_at(nodes, first + i);
-        let kind = node.kind;
-        marks = marks | unread_mark(s, kind, q);
-        q += flag_of(kind);
-        i += 1;
+        marks |= unread_mark(s, node, q);
+        q += flag_of(node);
     }
     marks
 }
