@@ -22,7 +22,7 @@ unfolding range_fits raised
 raised-le lo hi x y p q = rw (p, q)
 
 -- a kind above 12 has twelve others below it
-above : (k : ℕ) → 13 ≤ k → k ≡ suc (suc (suc (suc (suc (suc (suc (suc (suc (suc (suc (suc (suc (k - 13)))))))))))))
+pub above : (k : ℕ) → 13 ≤ k → k ≡ suc (suc (suc (suc (suc (suc (suc (suc (suc (suc (suc (suc (suc (k - 13)))))))))))))
 above k l = omega arith
 
 pub its_fit : (N : List ℕ) (k : ℕ) (n : Node) → IsNode N k n → node_fits N k ≡ fits n

@@ -90,6 +90,14 @@ sort F (Headed tag node) k = must refl (λ b q. refl) (λ fs. refl) (λ b e q at
 sort F (Other node) k = must refl (λ b q. refl) (λ fs. refl) (λ b e q at. refl)
 sort F Unknown k = must refl (λ b q. refl) (λ fs. refl) (λ b e q at. refl)
 
+pub plain_read : (F : ℕ → Fmt) (n : Node) (k : ℕ) → ((m : ℕ) → n ≡ Optional m → ⊥) → ((t : ℕ) → n ≡ Unread t → ⊥) → (b : ℕ → ℕ) (e q at : ℕ) → member_read F n k b e q at ≡ read (F k) (0, 0) b e at
+plain_read F n k h g b e q at = go (sort F n k)
+  where
+    go : Sort F n k → member_read F n k b e q at ≡ read (F k) (0, 0) b e at
+    go (may m i) = absurd (h m i)
+    go (left t i) = absurd (g t i)
+    go (must f m p r) = r b e q at
+
 module _ (F : ℕ → Fmt) (fs : Flds) (n : Node) (k : ℕ) where
   member-flags : flags (member F fs n k) ≡ flag_of n + flags fs
   unfolding flags

@@ -7,7 +7,7 @@ use native.Mathlib.Omega.{arith}
 use lib.ListN.{length}
 use borrow.Author.Tests.{eq-eqb}
 use Rattle.x691.specs.Bits.{bit_of}
-use Rattle.x691.specs.Encoding.{width, highest, count}
+use Rattle.x691.specs.Encoding.{width, highest}
 use Rattle.atn.specs.Format.{Fmt, Alts, choice, ext, noted, bad, alternatives_of}
 use Rattle.atn.specs.Alternatives.{alternatives_from}
 use Rattle.atn.specs.Reading.{Ctx, Ans, Rec, rec, ok, stop, or, mark, then, glue, fork, read, read_choice}

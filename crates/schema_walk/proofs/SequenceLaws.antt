@@ -4,7 +4,6 @@ use mathlib.Core.List.{List, [], ◌∷◌}
 use Prim.Native.Nat.{ℕ, suc, ◌+◌, ◌-◌, ◌*◌, ◌≤◌, ◌<◌}
 use native.Mathlib.Omega.{arith}
 use lib.ListN.{length}
-use borrow.Author.Tests.{ne_eqb}
 use Rattle.x691.specs.Bits.{bit_of}
 use Rattle.atn.specs.Format.{Fmt, Flds, seq, out}
 use Rattle.atn.specs.Reading.{Ans, rec, ok, or, mark, fork, flags, unread_marks, within, read, read_fields}
@@ -15,42 +14,42 @@ use Rattle.cursor.specs.Place.{put}
 use Rattle.schema_tables.specs.Entry.{top}
 use Rattle.schema_tables.specs.Nodes.{members_from}
 use Rattle.schema_nodes.specs.declared.node.Node.{Node}
+use Rattle.schema_nodes.specs.declared.node.Node.TheVariants.{Optional, Unread as unread}
 use Rattle.schema_nodes.specs.Row.{IsNode}
 use Rattle.schema_leaves.specs.declared.Step.{Step}
 use Rattle.schema_leaves.specs.Came.{Open, Came, failed}
 use Rattle.schema_leaves.proofs.CameLaws.{at, came_length, came_open, came_end, came_same, came_marked, came_stops, came_then}
 use Rattle.schema_parts.specs.Member.{flag_of, member_read}
 use Rattle.schema_parts.specs.Owed.{Presence, Ahead, Unread}
-use Rattle.schema_parts.proofs.MemberLaws.{from, from_all, from-none, flags-next, read_next}
+use Rattle.schema_parts.proofs.MemberLaws.{from, from_all, from-none, flags-next, read_next, plain_read}
 
 ---------------------------------------------------------------- one member, by its kind and its presence bit
 
-module _ (F : ℕ → Fmt) (kind k a : ℕ) (s : List ℕ) (q : ℕ) {x : Step} (o : Open s x) where
+module _ (F : ℕ → Fmt) (n : Node) (k : ℕ) (s : List ℕ) (q : ℕ) {x : Step} (o : Open s x) where
   abbrev Member : List ℕ → Step → List ℕ → Type 0
-  Member w z w' = Came (member_read F kind k a (bit_of s) x.c.end q x.c.at) x w z w'
+  Member w z w' = Came (member_read F n k (bit_of s) x.c.end q x.c.at) x w z w'
 
   stays : {w : List ℕ} → Came (ok x.c.at [] 0) x w x w
   stays = came_marked {a = x} {c = x.c} 0 o.few o.inside.0 (rw (or_nil x.c.marks) (rw (← o.goes) refl))
 
-  pub absent : {v : ℕ} {w : List ℕ} → kind ≡ 6 → v ≡ bit_of s q → v ≡ 0 → Member w x w
-  unfolding member_read fork
+  pub absent : {v m : ℕ} {w : List ℕ} → n ≡ Optional m → v ≡ bit_of s q → v ≡ 0 → Member w x w
+  unfolding fork
   absent e p z = let y : bit_of s q ≡ 0 = sym p ∙ z in rw (e, y) stays
 
-  pub present : {v : ℕ} {z : Step} {w w' : List ℕ} → kind ≡ 6 → v ≡ bit_of s q → (v ≡ 0 → ⊥) → Came (read (F a) (0, 0) (bit_of s) x.c.end x.c.at) x w z w' → Member w z w'
-  unfolding member_read fork
-  present {v} e p n h = let y : bit_of s q ≡ suc (v - 1) = omega (arith, n) in rw (e, y) h
+  pub present : {v m : ℕ} {z : Step} {w w' : List ℕ} → n ≡ Optional m → v ≡ bit_of s q → (v ≡ 0 → ⊥) → Came (read (F m) (0, 0) (bit_of s) x.c.end x.c.at) x w z w' → Member w z w'
+  unfolding fork
+  present {v} e p g h = let y : bit_of s q ≡ suc (v - 1) = omega (arith, g) in rw (e, y) h
 
-  pub not_there : {v : ℕ} {w : List ℕ} → kind ≡ 7 → v ≡ bit_of s q → v ≡ 0 → Member w x w
-  unfolding member_read fork
+  pub not_there : {v t : ℕ} {w : List ℕ} → n ≡ unread t → v ≡ bit_of s q → v ≡ 0 → Member w x w
+  unfolding fork
   not_there e p z = let y : bit_of s q ≡ 0 = sym p ∙ z in rw (e, y) stays
 
-  pub not-read : {v : ℕ} {z : Step} {w w' : List ℕ} → kind ≡ 7 → v ≡ bit_of s q → (v ≡ 0 → ⊥) → Came (ok x.c.at (rec a 0 1 0 x.c.at ∷ []) (mark 4)) x w z w' → Member w z w'
-  unfolding member_read fork
-  not-read {v} e p n h = let y : bit_of s q ≡ suc (v - 1) = omega (arith, n) in rw (e, y) h
+  pub not-read : {v t : ℕ} {z : Step} {w w' : List ℕ} → n ≡ unread t → v ≡ bit_of s q → (v ≡ 0 → ⊥) → Came (ok x.c.at (rec t 0 1 0 x.c.at ∷ []) (mark 4)) x w z w' → Member w z w'
+  unfolding fork
+  not-read {v} e p g h = let y : bit_of s q ≡ suc (v - 1) = omega (arith, g) in rw (e, y) h
 
-  pub required : {z : Step} {w w' : List ℕ} → (kind ≡ 6 → ⊥) → (kind ≡ 7 → ⊥) → Came (read (F k) (0, 0) (bit_of s) x.c.end x.c.at) x w z w' → Member w z w'
-  unfolding member_read
-  required n m h = rw (ne_eqb kind 6 n, ne_eqb kind 7 m) h
+  pub required : {z : Step} {w w' : List ℕ} → ((m : ℕ) → n ≡ Optional m → ⊥) → ((t : ℕ) → n ≡ unread t → ⊥) → Came (read (F k) (0, 0) (bit_of s) x.c.end x.c.at) x w z w' → Member w z w'
+  required g h y = rw (plain_read F n k g h (bit_of s) x.c.end q x.c.at) y
 
 ---------------------------------------------------------------- one after another
 
@@ -70,20 +69,20 @@ module _ (F : ℕ → Fmt) (N : List ℕ) (first count : ℕ) (s : List ℕ) (fl
   upto_none o h = record { going = o; end = refl; room = refl; ahead = rw (from_all F N first count) (h.room F); onward = λ z w'' x. rw (from_all F N first count) at x }
 
   module _ {b : Step} {w' : List ℕ} {q i : ℕ} (u : Upto b w' q i) where
-    pub upto_flag : {n : Node} → i < count → IsNode N (first + i) n → q + flag_of n.kind ≤ length s * 8
+    pub upto_flag : {n : Node} → i < count → IsNode N (first + i) n → q + flag_of n ≤ length s * 8
     upto_flag h node = omega (arith, u.ahead, flags-next F N first count i h node)
 
-    module _ (l : length w ≤ top) (h : i < count) {n : Node} (node : IsNode N (first + i) n) {z : Step} {w'' : List ℕ} (x : Came (member_read F n.kind (first + i) n.a (bit_of s) b.c.end q b.c.at) b w' z w'') where
+    module _ (l : length w ≤ top) (h : i < count) {n : Node} (node : IsNode N (first + i) n) {z : Step} {w'' : List ℕ} (x : Came (member_read F n (first + i) (bit_of s) b.c.end q b.c.at) b w' z w'') where
       abbrev after : ℕ → Ans
-      after p = read_fields (from F N first count (i + 1)) (0, 0) (bit_of s) a.c.end (q + flag_of n.kind) p
+      after p = read_fields (from F N first count (i + 1)) (0, 0) (bit_of s) a.c.end (q + flag_of n) p
 
-      y : Came (member_read F n.kind (first + i) n.a (bit_of s) a.c.end q b.c.at) b w' z w''
-      y = came_same (ap (λ v. member_read F n.kind (first + i) n.a (bit_of s) v q b.c.at) (sym u.end)) x
+      y : Came (member_read F n (first + i) (bit_of s) a.c.end q b.c.at) b w' z w''
+      y = came_same (ap (λ v. member_read F n (first + i) (bit_of s) v q b.c.at) (sym u.end)) x
 
       pub upto_stops : (z.c.why ≡ 0 → ⊥) → Members z w''
       upto_stops e = u.onward z w'' (came_same (read_next F N first count i h node (bit_of s) q a.c.end b.c.at) (came_stops after y e))
 
-      pub upto_more : {f : ℕ} → z.c.why ≡ 0 → f ≡ flag_of n.kind → Upto z w'' (q + f) (i + 1)
+      pub upto_more : {f : ℕ} → z.c.why ≡ 0 → f ≡ flag_of n → Upto z w'' (q + f) (i + 1)
       upto_more {f} e g =
           record {
             going = came_open u.going x e;

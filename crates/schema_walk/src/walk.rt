@@ -15,7 +15,7 @@ use capped_records::emit;
 use cursor::place::{Cursor, bits, mark, stop};
 use per::width::bits_for;
 use schema_leaves::Step;
-use schema_nodes::node::node_at;
+use schema_nodes::node::{Node, node_at};
 use schema_parts::leaf::{note_unread, read_leaf, refuse};
 use schema_parts::members::{bit, flag_of, presence_bits, unread_marks};
 
@@ -36,40 +36,26 @@ pub fn read_node(
         return refuse(at, 0);
     }
     let below = left - 1;
-    let node = node_at(nodes, k);
-    let kind = node.kind;
-    let a = node.a;
-    let b = node.b;
-    if kind < 4 {
-        return read_leaf(s, words, node, at);
+    match node_at(nodes, k) {
+        Node::Leaf(leaf) => read_leaf(s, words, leaf, at),
+        Node::Sequence { first, count } => read_sequence(s, nodes, words, first, count, below, at),
+        Node::Choice { tag, first, count } => {
+            read_choice(s, nodes, words, tag, first, count, below, at)
+        }
+        Node::Optional { node: _ } | Node::Unread { tag: _ } => {
+            read_sequence(s, nodes, words, k, 1, below, at)
+        }
+        Node::NoReader => refuse(at, 0),
+        Node::Unlisted => refuse(at, 1),
+        Node::Extension { node, tag } => read_extension(s, nodes, words, node, tag, below, at),
+        Node::Headed { tag, node } => {
+            let c = at.c;
+            let n = emit(words, at.n, tag, 0, 0, c.at);
+            read_node(s, nodes, words, node, below, Step { c: c, n: n })
+        }
+        Node::Other { node } => read_node(s, nodes, words, node, below, at),
+        Node::Unknown => refuse(at, 0),
     }
-    if kind == 4 {
-        return read_sequence(s, nodes, words, a as usize, b as usize, below, at);
-    }
-    if kind == 5 {
-        return read_choice(s, nodes, words, a, b as usize, node.c as usize, below, at);
-    }
-    if kind < 8 {
-        return read_sequence(s, nodes, words, k, 1, below, at);
-    }
-    if kind == 8 {
-        return refuse(at, 0);
-    }
-    if kind == 9 {
-        return refuse(at, 1);
-    }
-    if kind == 10 {
-        return read_extension(s, nodes, words, a as usize, b, below, at);
-    }
-    if kind == 11 {
-        let c = at.c;
-        let n = emit(words, at.n, a, 0, 0, c.at);
-        return read_node(s, nodes, words, b as usize, below, Step { c: c, n: n });
-    }
-    if kind == 12 {
-        return read_node(s, nodes, words, a as usize, below, at);
-    }
-    refuse(at, 0)
 }
 
 // A sequence of the members from node `first` on: their presence bits, then the members.
@@ -136,50 +122,48 @@ fn read_members(
 {
     let mut here = at;
     let mut q = flag;
-    let mut i: usize = 0;
-    while i < count {
+    for i in 0..count {
         let node = node_at(nodes, first + i);
-        let kind = node.kind;
-        here = read_member(s, nodes, words, first + i, kind, node.a, q, left, here);
+        here = read_member(s, nodes, words, first + i, node, q, left, here);
         let c = here.c;
         if c.why != 0 {
             return here;
         }
-        q += flag_of(kind);
-        i += 1;
+        q += flag_of(node);
     }
     here
 }
 
-// One member, node k of this kind. Its presence bit, if it has one, stands at q.
+// One member, node k, which is this one. Its presence bit, if it has one, stands at q.
 #[cycle(read_choice_read_extension_read_member_read_members_read_node_read_sequence)]
 fn read_member(
     s: &[u8],
     nodes: &[u64],
     words: &mut [u64],
     k: usize,
-    kind: u64,
-    a: u64,
+    node: Node,
     q: usize,
     left: usize,
     at: Step,
 ) -> Step
-    requires { Open s.now at × Ready nodes.now × (left < 2 ^ 32) × (q + flag_of kind ≤ length s.now * 8) }
-    ensures { Came (member_read (λ j. format_at left nodes.now j) kind k a (bit_of s.now) at.c.end q at.c.at) at words.old result words.new }
+    requires { Open s.now at × Ready nodes.now × (left < 2 ^ 32) × (q + flag_of node ≤ length s.now * 8) }
+    ensures { Came (member_read (λ j. format_at left nodes.now j) node k (bit_of s.now) at.c.end q at.c.at) at words.old result words.new }
 {
-    if kind == 6 {
-        if bit(s, q) == 0 {
-            return at;
+    match node {
+        Node::Optional { node } => {
+            if bit(s, q) == 0 {
+                return at;
+            }
+            read_node(s, nodes, words, node, left, at)
         }
-        return read_node(s, nodes, words, a as usize, left, at);
-    }
-    if kind == 7 {
-        if bit(s, q) == 0 {
-            return at;
+        Node::Unread { tag } => {
+            if bit(s, q) == 0 {
+                return at;
+            }
+            note_unread(words, at, tag)
         }
-        return note_unread(words, at, a);
+        _ => read_node(s, nodes, words, k, left, at),
     }
-    read_node(s, nodes, words, k, left, at)
 }
 
 // A choice: its index, told, and the alternative of that number from node `first` on.

@@ -1,5 +1,5 @@
 -- The depth falls, and at one depth the part of a node.
-use Rattle.std.proofs.Common.{◌+◌, ◌-◌, ◌*◌, ◌≤◌}
+use Rattle.std.proofs.Common.{◌+◌, ◌*◌}
 use Rattle.schema_tables.specs.Nodes.{format_at}
 use Rattle.schema_walk.proofs.SequenceLaws.{Upto}
 use Rattle.schema_walk.proofs.walk.+read_choice_read_extension_read_member_read_members_read_node_read_sequence.Given as goal
@@ -24,7 +24,4 @@ decreases-read_extension l = l.left * 8 + 3
 
 abbrev pub invariant-read_members-loop-i : goal.invariant-read_members-loop-i
 invariant-read_members-loop-i l =
-    (l.i ≤ l.count) × Upto (λ j. format_at l.left l.nodes j) l.nodes l.first l.count l.s l.flag l.initial.here l.initial.words l.here l.words l.q l.i
-
-abbrev pub decreases-read_members-loop-i : goal.decreases-read_members-loop-i
-decreases-read_members-loop-i l = l.count - l.i
+    Upto (λ j. format_at l.left l.nodes j) l.nodes l.first l.count l.s l.flag l.initial.here l.initial.words l.here l.words l.q l.i
