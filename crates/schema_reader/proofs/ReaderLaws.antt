@@ -2,7 +2,7 @@
 use mathlib.Core.Path.{◌≡◌, refl, sym, ap, ◌∙◌}
 use mathlib.Core.Bool.{Bool, true, false, cond}
 use mathlib.Core.List.{List, [], ◌++◌}
-use Prim.Native.Nat.{ℕ, ◌+◌, ◌*◌, ◌/◌, ◌%◌, ◌^◌, ◌≤◌, ◌<◌, min}
+use Prim.Native.Nat.{ℕ, ◌*◌, ◌/◌, ◌%◌, ◌^◌, ◌≤◌, ◌<◌, min}
 use native.Mathlib.Omega.{arith}
 use lib.ListN.{length, drop}
 use Rattle.x691.specs.Bits.{bit_of}
@@ -18,12 +18,14 @@ use Rattle.schema_tables.specs.Entry.{top, capped_answer, capped, table_tests, p
 use Rattle.schema_tables.specs.Nodes.{format_at, meaning}
 use Rattle.schema_tables.specs.Tests.{kinds_fit, links_fit, depth_fits}
 use Rattle.schema_tables.proofs.Capped.{cap_same, cap_need, cap_words}
-use Rattle.schema_nodes.specs.Refusal.{refusal_of}
+use Rattle.schema_nodes.specs.declared.refusal.Refusal.{Refusal}
+use Rattle.schema_nodes.specs.declared.refusal.Refusal.TheVariants.{UnfitKinds, UnfitLinks, UnfitDepth}
+use Rattle.schema_nodes.specs.Refusal.{refusal_of, number}
 use Rattle.capped_records.specs.Place.{counted, place}
 use Rattle.capped_records.proofs.PlaceLaws.{place-front}
 use Rattle.schema_leaves.specs.declared.Step.{Step}
 use Rattle.schema_leaves.specs.Came.{Open, Came, went, failed}
-use Rattle.schema_leaves.proofs.CameLaws.{at, says_why}
+use Rattle.schema_leaves.proofs.CameLaws.{says_why}
 use Rattle.schema_walk.specs.Ready.{Ready}
 
 abbrev pub start : List ℕ → Step
@@ -76,6 +78,11 @@ module _ (N s : List ℕ) where
   frame-fits-all t (failed y p m S n e l c j q i) x h f = absurd (says_why y n c h)
 
 ---------------------------------------------------------------- the tests before it
+
+pub some_number : (r : Refusal) → number r ≡ 0 → ⊥
+some_number UnfitKinds e = omega (arith, e)
+some_number UnfitLinks e = omega (arith, e)
+some_number UnfitDepth e = omega (arith, e)
 
 module _ (s N w : List ℕ) where
   pub frame-long : 65536 < length s → ◌≡◌ {A = Outcome} (refused 1 0 0 0, w) (parse_by_table s N w)

@@ -1,10 +1,10 @@
 // Reading by a lent table of nodes: `parse_by_table`. The reading decides before its records are written: a first one tells into a spare word, in which none fits, and counts them.
 #![tactic(auto)]
 
-ghost use Rattle.std.specs.Prelude.{◌≡◌, ◌*◌, ◌≤◌, min, length};
+ghost use Rattle.std.specs.Prelude.{◌≤◌, length};
 ghost use Rattle.atn.specs.Entries.{read_frame, settle};
 ghost use Rattle.answers.specs.Says.{Says};
-ghost use Rattle.schema_tables.specs.Entry.{top, capped, parse_by_table};
+ghost use Rattle.schema_tables.specs.Entry.{capped, parse_by_table};
 ghost use Rattle.schema_tables.specs.Nodes.{meaning};
 ghost use Rattle.schema_walk.specs.Ready.{Ready};
 
@@ -13,7 +13,7 @@ use cursor::place::Cursor;
 use per::units::Octets;
 use schema_leaves::Step;
 use schema_nodes::DEEPEST;
-use schema_nodes::refusal::refusal;
+use schema_nodes::refusal::check_nodes;
 use schema_walk::walk::read_node;
 
 // The words of a record.
@@ -26,9 +26,8 @@ pub fn parse_by_table(frame: &[u8], nodes: &[u64], words: &mut [u64]) -> Answer
     if LONGEST_FRAME < frame.len() {
         return refused(1, 0, 0, 0);
     }
-    let number = refusal(nodes);
-    if number != 0 {
-        return refused(number, 0, 0, 0);
+    if let Err(refusal) = check_nodes(nodes) {
+        return refused(refusal.number(), 0, 0, 0);
     }
     answer(frame, nodes, words)
 }
@@ -53,18 +52,8 @@ fn answer(frame: &[u8], nodes: &[u64], words: &mut [u64]) -> Answer
         return refused(c.why % 16, c.at, 0, count);
     }
     if words.len() / WORDS < count {
-        return refused(7, c.at, words_for(count), 0);
+        return refused(7, c.at, count.saturating_mul(WORDS), 0);
     }
     read_node(frame, nodes, words, 0, DEEPEST, first);
     accepted(c.at, c.marks, count)
-}
-
-// The words of so many records, at most 2^64 - 1.
-fn words_for(count: usize) -> usize
-    ensures { result ≡ min (count * 5) top }
-{
-    if count < 0x3333_3333_3333_3333 {
-        return count * WORDS;
-    }
-    usize::MAX
 }

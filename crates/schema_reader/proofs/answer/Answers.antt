@@ -17,7 +17,7 @@ pub returns-then-c-ne0 : goal.returns-then-c-ne0
 returns-then-c-ne0 c = record { is = rw c.refused.ensures (frame_stops c.args.nodes.now c.args.frame.now c.args.words.now (rw c.bits.ensures at c.read_node-tried.ensures) c.if-c-ne0.true) }
 
 pub returns-then-words-count : goal.returns-then-words-count
-returns-then-words-count c = record { is = rw c.refused-then-words-count.ensures (frame_full c.args.nodes.now c.args.frame.now c.args.words.now (rw c.bits.ensures at c.read_node-tried.ensures) c.if-c-ne0.false c.if-words-count.true c.words_for.ensures) }
+returns-then-words-count c = record { is = rw c.refused-then-words-count.ensures (frame_full c.args.nodes.now c.args.frame.now c.args.words.now (rw c.bits.ensures at c.read_node-tried.ensures) c.if-c-ne0.false c.if-words-count.true (search rules)) }
 
 pub read_node-requires : goal.read_node-requires
 read_node-requires c = (rw c.bits.ensures (at_start c.args.frame.now c.requires.0), c.requires.1, omega arith)
