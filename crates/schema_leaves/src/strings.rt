@@ -83,23 +83,11 @@ fn tell_letters(
     ensures { Placed words.old words.new n result (pack tag 0 start (units (bit_of s.now) 7 at len)) }
 {
     let mut m = n;
-    let mut i: usize = 0;
-    while i < len {
-        let v = eight(s, at + i * 7, at_most_eight(len - i));
+    for i in (0..len).step_by(8) {
+        let v = eight(s, at + i * 7, (len - i).min(8));
         m = emit(words, m, tag, v, len as u64, start);
-        i += 8;
     }
     m
-}
-
-fn at_most_eight(n: usize) -> usize
-    requires { 1 ≤ n }
-    ensures { (result ≤ 8) × (result ≤ n) × (1 ≤ result) × (result < 8 → result ≡ n) }
-{
-    if n < 8 {
-        return n;
-    }
-    8
 }
 
 // Up to eight characters as one number, the first in the highest octet, and zero for each that is missing.
