@@ -17,14 +17,14 @@ use message_runs::Kind;
 use per::units::Octets;
 use runs::At;
 
-// The bits of the clean message, or that there is none.
-#[derive(Clone, Copy)]
-pub enum Reach {
-    Clean(usize),
-    NotClean,
-}
-
-pub fn clean_reach(kind: Kind, direction: u64, down: &[u8], up: &[u8], frame: &[u8]) -> Reach
+// The bits of the clean message, if there is one.
+pub fn clean_reach(
+    kind: Kind,
+    direction: u64,
+    down: &[u8],
+    up: &[u8],
+    frame: &[u8],
+) -> Option<usize>
     requires { (length frame.now ≤ 65536) × (1 ≤ length down.now) × (length down.now ≤ 256) × (1 ≤ length up.now) × (length up.now ≤ 256) × (direction ≤ 1) }
     ensures { reach_of result ≡ clean_reach (read_frame (format_of kind direction down.now up.now) frame.now) }
 {
@@ -35,19 +35,19 @@ pub fn clean_reach(kind: Kind, direction: u64, down: &[u8], up: &[u8], frame: &[
     }
 }
 
-fn cpdlc_reach(direction: u64, down: &[u8], up: &[u8], frame: &[u8]) -> Reach
+fn cpdlc_reach(direction: u64, down: &[u8], up: &[u8], frame: &[u8]) -> Option<usize>
     requires { (length frame.now ≤ 65536) × (1 ≤ length down.now) × (length down.now ≤ 256) × (1 ≤ length up.now) × (length up.now ≤ 256) × (direction ≤ 1) }
     ensures { reach_of result ≡ clean_reach (read_frame (pdus direction down.now up.now) frame.now) }
 {
     let mut spare = [0u64; 1];
     let v = try_frame(frame, &mut spare, direction, down, up);
     if v.why != 0 {
-        return Reach::NotClean;
+        return None;
     }
     clean(false, v.reach, v.marks)
 }
 
-fn cm_reach(ground: bool, frame: &[u8]) -> Reach
+fn cm_reach(ground: bool, frame: &[u8]) -> Option<usize>
     requires { length frame.now ≤ 65536 }
     ensures { reach_of result ≡ clean_reach (read_frame (pdu_of ground) frame.now) }
 {
@@ -62,32 +62,32 @@ fn cm_reach(ground: bool, frame: &[u8]) -> Reach
     let tried = pdu(&mut spare, first, frame, ground);
     let c = tried.c;
     if c.why != 0 {
-        return Reach::NotClean;
+        return None;
     }
     clean(false, c.at, c.marks)
 }
 
-fn acse_reach(frame: &[u8]) -> Reach
+fn acse_reach(frame: &[u8]) -> Option<usize>
     requires { length frame.now ≤ 65536 }
     ensures { reach_of result ≡ clean_reach (read_frame acse frame.now) }
 {
     let apdu = read_apdu(frame);
     match apdu {
         Apdu::Heard(message) => clean(message.cut, message.reach, message.marks),
-        Apdu::RanOut(_, _) => Reach::NotClean,
-        Apdu::Badly(_) => Reach::NotClean,
+        Apdu::RanOut(_, _) => None,
+        Apdu::Badly(_) => None,
     }
 }
 
 // Clean is whole with no marks.
-fn clean(cut: bool, reach: usize, marks: u64) -> Reach
+fn clean(cut: bool, reach: usize, marks: u64) -> Option<usize>
     ensures { (R : List Rec) → reach_of result ≡ clean_reach (accept cut reach marks R) }
 {
     if cut {
-        return Reach::NotClean;
+        return None;
     }
     if marks != 0 {
-        return Reach::NotClean;
+        return None;
     }
-    Reach::Clean(reach)
+    Some(reach)
 }

@@ -7,7 +7,7 @@ use answers::Answer;
 use cm::parse_cm;
 use cpdlc::{parse_apdu, parse_pdus};
 
-// A direction is 0 for the aircraft's message and 1 for the ground's.
+// A direction is 0 for the aircraft's message and 1 for the ground's; it stays a number, since the entries refuse any other (3).
 #[derive(Clone, Copy)]
 pub enum Entry {
     Apdu,

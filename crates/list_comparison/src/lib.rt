@@ -14,6 +14,7 @@ pub enum Checked {
     Missing(usize),
     TooMany(usize),
     Incomplete(usize),
+    // a number, as in an entry's `Answer`, from which it comes
     Refused(u64),
 }
 

@@ -1,3 +1,4 @@
+pub mod Refusals
 pub mod Runs
 pub mod Pieces
 pub mod Begins

@@ -1,5 +1,5 @@
 -- `list_starts`: the complete answer, and what the lent numbers hold afterwards.
-use Rattle.std.specs.Prelude.{true, false, cond, ◌&&◌, List, [], ◌∷◌, ◌++◌, ℕ, zero, suc, ◌+◌, ◌-◌, ◌/◌, length, drop, leb, ltb}
+use Rattle.std.specs.Prelude.{true, false, cond, ◌&&◌, List, [], ◌∷◌, ◌++◌, ℕ, zero, suc, ◌+◌, ◌-◌, ◌/◌, length, drop, leb, ltb, Result, Ok, Err}
 use Rattle.std.proofs.Math.Option.{Option, none, some}
 use Rattle.atn.specs.Format.{Fmt}
 use Rattle.atn.specs.Messages.{acse}
@@ -7,7 +7,9 @@ use Rattle.atn.specs.Entries.{Reply, accept, ran_out, badly, unsupplied, read_fr
 use Rattle.message_runs.specs.declared.Kind.{Kind}
 use Rattle.message_runs.specs.declared.Kind.TheVariants.{Cpdlc, Cm, Acse}
 use Rattle.message_runs.specs.declared.Starts.{Starts}
-use Rattle.message_runs.specs.declared.Starts.TheVariants.{All, UpTo, Refused}
+use Rattle.message_runs.specs.declared.Starts.TheVariants.{All, UpTo}
+use Rattle.message_runs.specs.declared.Refusal.{Refusal}
+use Rattle.message_runs.specs.declared.Refusal.TheVariants.{TooLong, UnfitTables, UnknownDirection, TooFewNumbers}
 
 -- the messages of a kind: the aircraft's in direction 0, the ground's in direction 1; association control has no direction
 unfoldable pub format_of : Kind → ℕ → List ℕ → List ℕ → Fmt
@@ -52,14 +54,14 @@ unfoldable pub told : Cutting → List ℕ → Starts
 told c s = cond (ltb c.until (length s)) (UpTo (length c.starts) c.until) (All (length c.starts))
 
 -- the starts fill the front of the lent numbers, those after them stay; 20 where they do not fit
-unfoldable pub listed : Cutting → List ℕ → List ℕ → Starts × List ℕ
-listed c s w = cond (leb (length c.starts) (length w)) (told c s, c.starts ++ drop (length c.starts) w) (Refused 20 (length c.starts), w)
+unfoldable pub listed : Cutting → List ℕ → List ℕ → Result Starts Refusal × List ℕ
+listed c s w = cond (leb (length c.starts) (length w)) (Ok (told c s), c.starts ++ drop (length c.starts) w) (Err (TooFewNumbers (length c.starts)), w)
 
 -- kind, direction, down table, up table, the run, the numbers lent: the refusals in their order, asked for every kind
-unfoldable pub list_starts : Kind → ℕ → List ℕ → List ℕ → List ℕ → List ℕ → Starts × List ℕ
+unfoldable pub list_starts : Kind → ℕ → List ℕ → List ℕ → List ℕ → List ℕ → Result Starts Refusal × List ℕ
 list_starts k d down up s w =
     cond (frame_fits s)
     (cond (table_fits down && table_fits up)
-    (cond (direction_fits d) (listed (cut (format_of k d down up) s) s w) (Refused 3 0, w))
-    (Refused 2 0, w))
-    (Refused 1 0, w)
+    (cond (direction_fits d) (listed (cut (format_of k d down up) s) s w) (Err UnknownDirection, w))
+    (Err UnfitTables, w))
+    (Err TooLong, w)

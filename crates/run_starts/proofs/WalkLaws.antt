@@ -12,8 +12,8 @@ use Rattle.message_runs.specs.declared.Kind.{Kind}
 use Rattle.message_runs.specs.Runs.{format_of, clean_reach, bytes_for, cut_from, cut}
 use Rattle.message_runs.proofs.CleanLaws.{clean-fits, clean_padded, clean-some}
 use Rattle.message_runs.proofs.OneWay.{cut-first, cut-none, bytes-some}
-use Rattle.clean_reaches.specs.declared.Reach.{Reach}
-use Rattle.clean_reaches.specs.declared.Reach.TheVariants.{Clean, NotClean}
+use Rattle.std.specs.Prelude.{Some, None}
+use Rattle.std.specs.Prelude.{Option as Maybe}
 use Rattle.clean_reaches.specs.Reaches.{reach_of}
 use Rattle.run_starts.specs.Walked.{front, Walked}
 
@@ -48,12 +48,12 @@ rest-is s at = take_all (length s - at) (drop at s) (omega (arith, length-drop a
 pub rest-length : (s : List ℕ) (at : ℕ) → length s ≤ 65536 → length (take (length s - at) (drop at s)) ≤ 65536
 rest-length s at l = rw (rest-is s at, length-drop at s) (omega arith)
 
-module _ (f : Fmt) (s : List ℕ) (at : ℕ) {r : Reach} (e : reach_of r ≡ clean_reach (read_frame f (take (length s - at) (drop at s)))) where
-  pub rest-clean : {p : ℕ} → r ≡ Clean p → clean_reach (read_frame f (drop at s)) ≡ some p
+module _ (f : Fmt) (s : List ℕ) (at : ℕ) {r : Maybe ℕ} (e : reach_of r ≡ clean_reach (read_frame f (take (length s - at) (drop at s)))) where
+  pub rest-clean : {p : ℕ} → r ≡ Some p → clean_reach (read_frame f (drop at s)) ≡ some p
   unfolding reach_of
   rest-clean q = sym (rw (rest-is s at, q) at e)
 
-  pub rest-none : r ≡ NotClean → clean_reach (read_frame f (drop at s)) ≡ none
+  pub rest-none : r ≡ None → clean_reach (read_frame f (drop at s)) ≡ none
   unfolding reach_of
   rest-none q = sym (rw (rest-is s at, q) at e)
 

@@ -3,13 +3,12 @@
 
 ghost use Rattle.std.specs.Prelude.{◌≡◌, ◌≤◌, length};
 ghost use Rattle.message_runs.specs.Runs.{format_of, cut, list_starts};
-ghost use Rattle.message_runs.specs.declared.Starts.TheVariants.{Refused};
 ghost use Rattle.run_starts.specs.Walked.{Walked};
 
 use answers::LONGEST_FRAME;
-use clean_reaches::{Reach, clean_reach};
+use clean_reaches::clean_reach;
 use lent_tables::tables_fit;
-use message_runs::{Kind, Starts};
+use message_runs::{Kind, Refusal, Starts};
 
 // direction 0 is the aircraft's message, 1 the ground's. The starts are bytes of the run, the first of them 0. A run has at most the bytes of the longest frame.
 pub fn list_starts(
@@ -19,31 +18,31 @@ pub fn list_starts(
     up: &[u8],
     run: &[u8],
     starts: &mut [u64],
-) -> Starts
+) -> Result<Starts, Refusal>
     ensures { (result, starts.new) ≡ list_starts kind direction down.now up.now run.now starts.old }
 {
     if LONGEST_FRAME < run.len() {
-        return refused(1, 0);
+        return Err(Refusal::TooLong);
     }
     if !tables_fit(down, up) {
-        return refused(2, 0);
+        return Err(Refusal::UnfitTables);
     }
     if 1 < direction {
-        return refused(3, 0);
+        return Err(Refusal::UnknownDirection);
     }
     // lent no numbers, so that a refusal leaves them
     let found = walk(kind, direction, down, up, run, &mut starts[..0]);
     if starts.len() < found.count {
-        return refused(20, found.count);
+        return Err(Refusal::TooFewNumbers { need: found.count });
     }
     walk(kind, direction, down, up, run, starts);
     if found.until < run.len() {
-        return Starts::UpTo {
+        return Ok(Starts::UpTo {
             count: found.count,
             byte: found.until,
-        };
+        });
     }
-    Starts::All { count: found.count }
+    Ok(Starts::All { count: found.count })
 }
 
 // How many clean messages follow one another, and the byte up to which they go.
@@ -62,7 +61,7 @@ fn walk(kind: Kind, direction: u64, down: &[u8], up: &[u8], run: &[u8], starts: 
     let mut at = 0;
     while at < run.len() {
         let reach = clean_reach(kind, direction, down, up, &run[at..]);
-        let Reach::Clean(bits) = reach else {
+        let Some(bits) = reach else {
             return Found {
                 count: count,
                 until: at,
@@ -77,14 +76,5 @@ fn walk(kind: Kind, direction: u64, down: &[u8], up: &[u8], run: &[u8], starts: 
     Found {
         count: count,
         until: at,
-    }
-}
-
-fn refused(number: u64, need: usize) -> Starts
-    ensures { result ≡ Refused number need }
-{
-    Starts::Refused {
-        number: number,
-        need: need,
     }
 }

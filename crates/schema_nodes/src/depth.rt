@@ -21,7 +21,7 @@ pub fn depth_fits(nodes: &[u64]) -> bool
     if KEPT < n {
         return within(nodes, 0, DEEPEST);
     }
-    let mut depths = [0usize; KEPT];
+    let mut depths = [0usize; KEPT]; // no heap
     for k in (0..n).rev() {
         let named = node_at(nodes, k).named();
         depths[k] = 1 + deepest(&depths, named.first, named.count);
@@ -35,6 +35,7 @@ fn deepest(depths: &[usize], first: usize, count: usize) -> usize
     ensures { Deepest depths.now first count result }
 {
     let mut d: usize = 0;
+    // by numbers, since where there are none `first` may lie outside
     for i in 0..count {
         d = d.max(depths[first + i]);
     }

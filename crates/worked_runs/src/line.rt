@@ -1,8 +1,8 @@
 // A case's line.
 use listing::{put, put_decimal, put_octets, put_text};
-use message_runs::Starts;
+use message_runs::{Refusal, Starts};
 
-pub fn print(kind: &[u8], run: &[u8], answer: Starts, starts: &[u64]) {
+pub fn print(kind: &[u8], run: &[u8], answer: Result<Starts, Refusal>, starts: &[u64]) {
     let mut line = listing::new();
     let mut n = put_text(&mut line, 0, kind);
     n = put(&mut line, n, b' ');
@@ -14,10 +14,10 @@ pub fn print(kind: &[u8], run: &[u8], answer: Starts, starts: &[u64]) {
     listing::write(&mut line, n);
 }
 
-fn put_answer(line: &mut [u8; 1024], n: usize, answer: Starts) -> usize {
+fn put_answer(line: &mut [u8; 1024], n: usize, answer: Result<Starts, Refusal>) -> usize {
     match answer {
-        Starts::All { count } => put_two(line, n, b"all ", count as u64, 0, false),
-        Starts::UpTo { count, byte } => put_two(
+        Ok(Starts::All { count }) => put_two(line, n, b"all ", count as u64, 0, false),
+        Ok(Starts::UpTo { count, byte }) => put_two(
             line,
             n,
             b"up to ",
@@ -25,7 +25,14 @@ fn put_answer(line: &mut [u8; 1024], n: usize, answer: Starts) -> usize {
             byte as u64,
             true,
         ),
-        Starts::Refused { number, need } => put_two(line, n, b"no ", number, need as u64, true),
+        Err(refusal) => put_two(
+            line,
+            n,
+            b"no ",
+            refusal.number(),
+            refusal.need() as u64,
+            true,
+        ),
     }
 }
 

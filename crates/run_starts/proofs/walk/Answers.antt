@@ -25,10 +25,10 @@ returns-in_default c =
     going_none e.kind e.direction e.down.now e.up.now e.run.now e.starts.now g (rest-none _ e.run.now c.loop-at.at c.clean_reach-reach.ensures c.in_default.is)
 
 -- the message that was read, and how far it goes
-read-clean : (c : Joined-count-starts) → clean_reach (read_frame (format_of c.args.kind c.args.direction c.args.down.now c.args.up.now) (drop c.loop-at.at c.args.run.now)) ≡ some c.in-Clean.bits
-read-clean c = rest-clean _ c.args.run.now c.loop-at.at c.clean_reach-reach.ensures c.in-Clean.is
+read-clean : (c : Joined-count-starts) → clean_reach (read_frame (format_of c.args.kind c.args.direction c.args.down.now c.args.up.now) (drop c.loop-at.at c.args.run.now)) ≡ some c.in-Some.bits
+read-clean c = rest-clean _ c.args.run.now c.loop-at.at c.clean_reach-reach.ensures c.in-Some.is
 
-fits : (c : Joined-count-starts) → (0 < bytes_for c.in-Clean.bits) × (c.loop-at.at + bytes_for c.in-Clean.bits ≤ length c.args.run.now)
+fits : (c : Joined-count-starts) → (0 < bytes_for c.in-Some.bits) × (c.loop-at.at + bytes_for c.in-Some.bits ≤ length c.args.run.now)
 fits c =
     let e = c.args in
     going_fits e.kind e.direction e.down.now e.up.now e.run.now e.starts.now c.loop-at.invariant (read-clean c)
