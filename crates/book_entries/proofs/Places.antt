@@ -3,11 +3,12 @@ use mathlib.Core.Path.{◌≡◌, refl, ap, ◌∙◌}
 use mathlib.Core.Bool.{Bool, true, false, cond}
 use mathlib.Core.List.{List, [], ◌∷◌, ◌++◌}
 use Prim.Native.Nat.{ℕ, zero, suc, ◌+◌, ◌*◌, ◌-◌, ◌≤◌, ◌<◌}
+use native.Mathlib.Nat.{le_refl}
 use native.Mathlib.Numerals.{add-one, add-two, add-three}
 use native.Mathlib.Omega.{arith}
 use lib.Dec.{eqb}
-use lib.ListN.{length, drop, get_or, length-drop, length-append}
-use lib.Seq.{drop-cons}
+use lib.ListN.{length, take, drop, get_or, length-drop, length-append}
+use lib.Seq.{drop-cons, take_all}
 use Rattle.book_entries.specs.declared.Entry.{Entry}
 use Rattle.book_entries.specs.Entries.{words, entry_at}
 use Rattle.book_entries.specs.Book.{picture, entries}
@@ -38,13 +39,17 @@ module _ (w : List ℕ) (i : ℕ) where
   pub unused : i * 4 + 3 < length w → eqb (get_or w (i * 4 + 3) 0) 0 ≡ true → from w i ≡ []
   unused p e = step p ∙ rw e
 
-three : (x : List ℕ) → length x < 4 → entries x ≡ []
+pub three : (x : List ℕ) → length x < 4 → entries x ≡ []
 unfolding entries
 three [] p = refl
 three (a ∷ []) p = refl
 three (a ∷ b ∷ []) p = refl
 three (a ∷ b ∷ k ∷ []) p = refl
 three (a ∷ b ∷ k ∷ s ∷ x) p = absurd (omega arith)
+
+-- the first entry is taken off
+pub first_off : (w : List ℕ) {e : Entry} → 4 ≤ length w → eqb (get_or w 3 0) 0 ≡ false → e ≡ entry_at w 0 → entries w ≡ e ∷ entries (take (length w - 4) (drop 4 w))
+first_off w p t is = used w 0 (omega arith) t ∙ rw (is, take_all (length w - 4) (drop 4 w) (simp length-drop (le_refl _)))
 
 -- no whole place
 pub behind : (w : List ℕ) (i : ℕ) → length w < i * 4 + 4 → from w i ≡ []

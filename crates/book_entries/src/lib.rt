@@ -2,7 +2,10 @@
 #![tactic(auto)]
 
 ghost use Rattle.std.specs.Prelude.{◌≡◌, ◌++◌, ◌+◌, ◌*◌, ◌^◌, ◌-◌, ◌≤◌, ◌<◌, length, take, drop};
-ghost use Rattle.book_entries.specs.Entries.{text as Entries·text, plain as Entries·plain, good as Entries·good, words, entry_at};
+ghost use Rattle.std.specs.Iterator.{YieldsFirst, item_count};
+ghost use Rattle.book_entries.specs.Entries.{text as Entries·text, size, bytes, plain as Entries·plain, good, words, entry_at};
+ghost use Rattle.book_entries.specs.Book.{named, entries};
+ghost use Rattle.book_entries.specs.Left.{left};
 
 // high and low are the name's characters, the first one highest and zeros behind the last; number is the frame's; shape is the number of characters, times 2^20 (five digits), and the frame's byte length.
 #[derive(Clone, Copy)]
@@ -38,31 +41,100 @@ pub fn put_entry(book: &mut [u32], i: usize, e: Entry)
     book[at + 3] = e.shape;
 }
 
-// The name's characters as one number.
-pub fn text(e: Entry) -> u64
-    ensures { result ≡ Entries·text e }
-{
-    wide(e.high) * 4294967296 + wide(e.low)
+// A name: its characters as one number, the first one highest and zeros behind the last, and how many there are.
+#[derive(Clone, Copy, PartialEq, Eq)]
+pub struct Name {
+    pub text: u64,
+    pub size: u32,
 }
 
-// Whether these calls can have left such an entry.
-pub fn good(e: Entry) -> bool
-    ensures { result ≡ Entries·good e }
-{
-    let size = e.shape / 1048576;
-    if size < 2 {
-        return false;
+impl Entry {
+    // The name's characters as one number.
+    pub fn text(self) -> u64
+        ensures { result ≡ Entries·text self }
+    {
+        u64::from(self.high) * 4294967296 + u64::from(self.low)
     }
-    if 8 < size {
-        return false;
+
+    // How many characters the name has.
+    pub fn size(self) -> u32
+        ensures { result ≡ size self }
+    {
+        self.shape / 1048576
     }
-    if !plain(e.high) {
-        return false;
+
+    // The frame's byte length.
+    pub fn bytes(self) -> u32
+        ensures { result ≡ bytes self }
+    {
+        self.shape % 1048576
     }
-    if !plain(e.low) {
-        return false;
+
+    pub fn name(self) -> Name
+        ensures { (result.text ≡ Entries·text self) × (result.size ≡ size self) }
+    {
+        Name {
+            text: self.text(),
+            size: self.size(),
+        }
     }
-    text(e) % unit(size) == 0
+
+    pub fn is_named(self, name: Name) -> bool
+        ensures { result ≡ named name.text name.size self }
+    {
+        self.name() == name
+    }
+
+    // Whether these calls can have left such an entry.
+    pub fn is_good(self) -> bool
+        ensures { result ≡ good self }
+    {
+        let size = self.size();
+        if size < 2 {
+            return false;
+        }
+        if 8 < size {
+            return false;
+        }
+        if !plain(self.high) {
+            return false;
+        }
+        if !plain(self.low) {
+            return false;
+        }
+        self.text() % unit(size) == 0
+    }
+}
+
+// The entries of a book's places, first to last, up to the first place that is not in use.
+#[derive(Clone, Copy)]
+pub struct Entries<'a> {
+    places: &'a [u32],
+}
+
+impl<'a> Entries<'a> {
+    pub fn of(places: &'a [u32]) -> Entries<'a>
+        ensures { left result ≡ entries places.now }
+    {
+        Entries { places }
+    }
+}
+
+impl<'a> Iterator for Entries<'a> {
+    type Item = Entry;
+
+    ghost next_gives = { YieldsFirst left };
+
+    ghost remaining = { item_count left };
+
+    fn next(&mut self) -> Option<Entry> {
+        if self.places.len() < 4 || self.places[3] == 0 {
+            return None;
+        }
+        let entry = entry_at(self.places, 0);
+        self.places = &self.places[4..];
+        Some(entry)
+    }
 }
 
 // What the last of so many characters counts.
@@ -95,10 +167,4 @@ fn plain(x: u32) -> bool
         return false;
     }
     x / 16777216 < 128
-}
-
-pub fn wide(x: u32) -> u64
-    ensures { result ≡ x }
-{
-    x as u64
 }
