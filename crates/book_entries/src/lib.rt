@@ -114,7 +114,8 @@ pub struct Entries<'a> {
 
 impl<'a> Entries<'a> {
     pub fn of(places: &'a [u32]) -> Entries<'a>
-        ensures { left result ≡ entries places.now }
+        ensures held { left result ≡ entries places.now }
+        ensures few { length (left result) * 4 ≤ length places.now }
     {
         Entries { places }
     }

@@ -1,118 +1,78 @@
 // What the places of a book hold: the number of their entries, where one stands, and whether the calls can have left such places.
 #![tactic(auto)]
 
-ghost use Rattle.std.specs.Prelude.{◌≡◌, cond, List, ◌+◌, ◌*◌, ◌≤◌, ◌<◌, length, drop};
+ghost use Rattle.std.specs.Prelude.{◌≡◌, cond, length, position};
 ghost use Rattle.std.proofs.Math.Option.{none, some};
-ghost use Rattle.book_entries.specs.Entries.{entry_at};
-ghost use Rattle.book_entries.specs.Book.{place, named, numbered, before, fair, entries, clear, listed};
+ghost use Rattle.book_entries.specs.Book.{holds, named, numbered, before, fair, entries, clear, listed};
+ghost use Rattle.book_entries.specs.Left.{left};
 
-use book_entries::{Entry, entry_at, good, text};
+use book_entries::{Entries, Entry, Name};
 
 // How many places are in use.
 pub fn count(book: &[u32]) -> usize
     ensures { result ≡ length (entries book.now) }
 {
-    let places = book.len() / 4;
-    let mut i = 0;
-    while i < places {
-        if book[i * 4 + 3] == 0 {
-            return i;
-        }
-        i += 1;
-    }
-    i
+    Entries::of(book).count()
 }
 
-// The first of n places, from `first` on, with this name; n where there is none.
-pub fn find_name(book: &[u32], n: usize, first: usize, name: u64, size: u32) -> usize
-    requires { (n ≡ length (entries book.now)) × (first ≤ n) }
-    ensures { result ≡ first + place (named name size) (entries (drop (first * 4) book.now)) }
+// The first place with this name.
+pub fn find_name(book: &[u32], name: Name) -> Option<usize>
+    ensures { result ≡ position (named name.text name.size) (entries book.now) }
 {
-    let mut i = first;
-    while i < n {
-        if is_named(entry_at(book, i), name, size) {
-            return i;
-        }
-        i += 1;
-    }
-    i
+    Entries::of(book).position(|e| e.is_named(name))
 }
 
-// The first of n places with this frame number; n where there is none.
-pub fn find_number(book: &[u32], n: usize, number: u32) -> usize
-    requires { n ≡ length (entries book.now) }
-    ensures { result ≡ place (numbered number) (entries book.now) }
+// The first place with this frame number.
+pub fn find_number(book: &[u32], number: u32) -> Option<usize>
+    ensures { result ≡ position (numbered number) (entries book.now) }
 {
-    let mut i = 0;
-    while i < n {
-        if book[i * 4 + 2] == number {
-            return i;
-        }
-        i += 1;
-    }
-    i
+    Entries::of(book).position(|e| e.number == number)
 }
 
 // Whether the calls can have left these places.
 pub fn sound(book: &[u32]) -> bool
     ensures { listed book.now ≡ cond result (some (entries book.now)) none }
 {
-    let n = count(book);
-    let mut i = 0;
-    while i < n {
-        if !fair_at(book, n, i) {
+    let mut later = Entries::of(book);
+    while let Some(e) = later.next() {
+        if !is_fair(e, later) {
             return false;
         }
-        i += 1;
     }
-    all_zero(book, n * 4)
+    is_clear(&book[count(book) * 4..])
 }
 
-// Whether the entry at place i is good, and those behind it have higher numbers and other names.
-fn fair_at(book: &[u32], n: usize, i: usize) -> bool
-    requires { (n ≡ length (entries book.now)) × (i < n) }
-    ensures { result ≡ fair (entry_at book.now i) (entries (drop ((i + 1) * 4) book.now)) }
+// Whether an entry is good, and those behind it have higher numbers and other names.
+fn is_fair(e: Entry, later: Entries) -> bool
+    ensures { result ≡ fair e (left later.entry) }
 {
-    let e = entry_at(book, i);
-    if !good(e) {
+    if !e.is_good() {
         return false;
     }
-    if !rises(book, n, i) {
+    if !rises(e, later) {
         return false;
     }
-    n <= find_name(book, n, i + 1, text(e), e.shape / 1048576)
+    !has_name(later, e.name())
 }
 
-// Whether the entry behind place i, if there is one, has a higher number.
-fn rises(book: &[u32], n: usize, i: usize) -> bool
-    requires { (n ≡ length (entries book.now)) × (i < n) }
-    ensures { result ≡ before (entry_at book.now i) (entries (drop ((i + 1) * 4) book.now)) }
+// Whether the next entry, if there is one, has a higher number.
+fn rises(e: Entry, mut later: Entries) -> bool
+    ensures { result ≡ before e (left later.entry) }
 {
-    if n <= i + 1 {
-        return true;
+    match later.next() {
+        Some(f) => e.number < f.number,
+        None => true,
     }
-    entry_at(book, i).number < entry_at(book, i + 1).number
 }
 
-fn is_named(e: Entry, name: u64, size: u32) -> bool
-    ensures { result ≡ named name size e }
+fn has_name(mut later: Entries, name: Name) -> bool
+    ensures { result ≡ holds (named name.text name.size) (left later.entry) }
 {
-    if text(e) != name {
-        return false;
-    }
-    e.shape / 1048576 == size
+    later.any(|f| f.is_named(name))
 }
 
-// Whether all words from `first` on are 0.
-fn all_zero(book: &[u32], first: usize) -> bool
-    ensures { result ≡ clear (drop first book.now) }
+fn is_clear(words: &[u32]) -> bool
+    ensures { result ≡ clear words.now }
 {
-    let mut i = first;
-    while i < book.len() {
-        if book[i] != 0 {
-            return false;
-        }
-        i += 1;
-    }
-    true
+    words.iter().all(|word| *word == 0)
 }

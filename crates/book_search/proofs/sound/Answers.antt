@@ -1,33 +1,12 @@
-use mathlib.Core.Path.{refl, sym, ◌∙◌}
-use Prim.Native.Nat.{◌-◌}
-use native.Mathlib.Omega.{arith}
-use Rattle.book_entries.proofs.Places.{places}
-use Rattle.book_search.proofs.SearchLaws.{unfair, turn, all-orderly, unsound, judged}
+use mathlib.Core.Path.{sym, ◌∙◌}
+use Rattle.book_search.proofs.SearchLaws.{unfair, turn, all-orderly, unsound, judged, clear-behind}
 use Rattle.book_search.proofs.sound.Goals as goal
 
-pub loop-i-init : goal.loop-i-init
-loop-i-init c = (omega arith, c.count-n.ensures, refl)
+pub returns-then-not-is_fair : goal.returns-then-not-is_fair
+returns-then-not-is_fair c = unsound c.args.book.now (c.loop-e.invariant.2 ∙ unfair c.in-Some.ensures.steps (sym c.if-not-is_fair.true ∙ c.is_fair.ensures))
 
-pub overflow_mul-n : goal.overflow_mul-n
-overflow_mul-n c = omega (arith, places c.args.book.now)
+pub loop-e-preserved : goal.loop-e-preserved
+loop-e-preserved c = (tt, tt, c.loop-e.invariant.2 ∙ turn c.in-Some.ensures.steps (sym c.if-not-is_fair.false ∙ c.is_fair.ensures))
 
 pub returns : goal.returns
-returns c =
-    let b = c.args.book.now in
-    let z = c.loop-i in
-    judged b (z.invariant.2 ∙ all-orderly b z.i (omega arith)) (rw z.invariant.1 at c.all_zero.ensures)
-
-pub fair_at-requires : goal.fair_at-requires
-fair_at-requires c = omega arith
-
-pub returns-then-not-fair_at : goal.returns-then-not-fair_at
-returns-then-not-fair_at c =
-    let b = c.args.book.now in
-    let z = c.loop-i in
-    unsound b (z.invariant.2 ∙ unfair b z.i (omega arith) (sym c.fair_at.ensures ∙ c.if-not-fair_at.true))
-
-pub loop-i-preserved : goal.loop-i-preserved
-loop-i-preserved c =
-    let b = c.args.book.now in
-    let z = c.loop-i in
-    (omega arith, z.invariant.1, z.invariant.2 ∙ turn b z.i (omega arith) (sym c.fair_at.ensures ∙ c.if-not-fair_at.false))
+returns c = judged c.args.book.now (c.loop-e.invariant.2 ∙ all-orderly c.in_default.ensures.steps.0) (clear-behind c.args.book.now c.count.ensures c.is_clear.ensures)
