@@ -1,15 +1,15 @@
 -- One turn of a change: the words before place i are done, those from it on are as they were.
 use mathlib.Core.Path.{◌≡◌, refl, sym, ap, ◌∙◌}
-use mathlib.Core.List.{List, [], ◌∷◌, ◌++◌, append_assoc, append-nil}
-use Prim.Native.Nat.{ℕ, ◌+◌, ◌*◌, ◌≤◌, ◌<◌}
+use mathlib.Core.List.{List, [], ◌∷◌, ◌++◌, append_assoc}
+use Prim.Native.Nat.{ℕ, ◌+◌, ◌*◌, ◌-◌, ◌≤◌, ◌<◌}
 use native.Mathlib.Omega.{arith}
 use lib.ListN.{length, take, drop, get_or, take-append-drop, length-append, length-drop}
-use lib.Seq.{get_or-drop, drop-drop, length-take-le, take_at, drop_at}
+use lib.Seq.{get_or-drop, drop-drop, length-take-le, take_at, drop_at, paste, take-paste, drop-paste}
 use borrow.Author.Tests.{lt-ltb, le-ltb}
 use Rattle.book_entries.specs.declared.Entry.{Entry}
 use Rattle.book_entries.specs.Entries.{words, entry_at}
 use Rattle.book_entries.specs.Book.{picture, entries}
-use Rattle.book_entries.proofs.Places.{from, four, next_of, last}
+use Rattle.book_entries.proofs.Places.{from, four, next_of, last, counted, pictured, picture-length, places}
 use Rattle.book_changes.specs.Changes.{lower, higher, insert, vacant}
 
 -- the words w with e at place i
@@ -70,10 +70,6 @@ module _ (w v : List ℕ) (i : ℕ) (f : Entry) (p : i < length (entries w)) (is
   unfolding insert
   inserted c q e = rw (e, first, put-take v i (lower c f) q) (joined (take (i * 4) v) (lower c f) (insert (higher c f) (from w (i + 1))))
 
-  -- f moves up to the place j
-  pub moved : (j : ℕ) {x : List ℕ} → j * 4 + 3 < length v → x ≡ take (j * 4) v ++ picture (from w i) → x ≡ take ((j + 1) * 4) (put v j f) ++ picture (from w (i + 1))
-  moved j q e = rw (e, first, put-take v j f q) (joined (take (j * 4) v) f (from w (i + 1)))
-
 -- f, which is g, has a number that is higher than e's, or is not
 module _ {e f g : Entry} (is : f ≡ g) where
   pub goes_before : e.number < f.number → (f ≡ higher e g) × (e ≡ lower e g)
@@ -104,22 +100,25 @@ module _ {w x v : List ℕ} {c : Entry} {i : ℕ} (so : Inserting w x v c i) whe
       let l : from w i ≡ [] = rw h (last w) in
       rw (e, so.done, l, k, same_next w v i so.rest)
 
--- the place i is free: the words before it are done, and those behind it are as they were
-pub record Removing (w x v : List ℕ) (i : ℕ) : Type 0 where
-  pub within : i < length (entries w)
-  pub long : length v ≡ length w
-  pub rest : drop ((i + 1) * 4) v ≡ drop ((i + 1) * 4) w
-  pub done : x ≡ take (i * 4) v ++ picture (from w (i + 1))
+-- those of n entries behind place p move up
+module _ (w : List ℕ) (p : ℕ) (q : p < length (entries w)) where
+  -- their words
+  lifted : take (length (entries w) * 4 - (p + 1) * 4) (drop ((p + 1) * 4) w) ≡ picture (from w (p + 1))
+  lifted =
+      let F = from w (p + 1) in
+      let k : length (picture F) ≡ length (entries w) * 4 - (p + 1) * 4 = omega (arith, picture-length F, counted w (p + 1) (omega arith)) in
+      let t = drop ((p + 1) * 4) w in
+      let m = length (entries w) * 4 - (p + 1) * 4 in
+      ap (λ (y : List ℕ). take m y) (pictured t) ∙ take_at (picture F) (drop (length F * 4) t) m k
 
-module _ {w x v : List ℕ} {i : ℕ} (so : Removing w x v i) where
-  pub removing : {v' : List ℕ} {f : Entry} → i + 1 < length (entries w) → i * 4 + 3 < length v → f ≡ entry_at v (i + 1) → v' ≡ put v i f → Removing w x v' (i + 1)
-  removing {f = f} p q k e =
-      rw e
-      record { within = p; long = put-length v i f q ∙ so.long; rest = same_next w (put v i f) (i + 1) (put-drop v i f q ∙ so.rest); done = moved w v (i + 1) f p (k ∙ same-entry w v (i + 1) so.rest) i q so.done }
-
-  pub removed_last : {v' : List ℕ} → i + 1 ≡ length (entries w) → v' ≡ put v i vacant → v' ≡ x ++ words vacant ++ drop (length (entries w) * 4) w
-  unfolding picture
-  removed_last h e =
-      let k : i * 4 + 4 ≡ (i + 1) * 4 = omega arith in
-      let l : from w (i + 1) ≡ [] = rw h (last w) in
-      rw (e, so.done, l, ← h, k, so.rest, append-nil)
+  pub moved_up : {n : ℕ} {v x : List ℕ} → n ≡ length (entries w) → v ≡ paste w (p * 4) (drop ((p + 1) * 4) w) (n * 4 - (p + 1) * 4) → x ≡ put v (n - 1) vacant → x ≡ take (p * 4) w ++ picture (from w (p + 1)) ++ words vacant ++ drop (length (entries w) * 4) w
+  moved_up {n} {v} is e f =
+      let t = drop ((p + 1) * 4) w in
+      let k = n * 4 - (p + 1) * 4 in
+      let l : k ≤ length t = omega (arith, length-drop ((p + 1) * 4) w, places w) in
+      let a : (n - 1) * 4 ≡ p * 4 + k = omega arith in
+      let b : (n - 1) * 4 + 4 ≡ n * 4 = omega arith in
+      let d : p * 4 + k + 4 ≡ n * 4 = omega arith in
+      let before : take (p * 4 + k) v ≡ take (p * 4) w ++ take k t = rw e (take-paste w (p * 4) t k (omega (arith, places w)) l) in
+      let behind : drop (n * 4) v ≡ drop (n * 4) w = rw (← d, ← drop-drop 4 (p * 4 + k) v, ← drop-drop 4 (p * 4 + k) w) (rw e (ap (λ (y : List ℕ). drop 4 y) (drop-paste w (p * 4) t k (omega (arith, places w)) l))) in
+      rw (f, a, before, d, behind, is, lifted)

@@ -8,28 +8,24 @@ ghost use Rattle.book_changes.specs.Changes.{lower, higher, vacant};
 ghost use Rattle.book_changes.specs.Changes.{insert as Changes·insert};
 
 use book_entries::{Entry, entry_at, put_entry};
+use book_search::count;
 
 // No place is in use.
 pub fn empty(book: &mut [u32])
     ensures { book.new ≡ replicate (length book.old) 0 }
 {
-    let mut i = 0;
-    while i < book.len() {
-        book[i] = 0;
-        i += 1;
-    }
+    book.fill(0);
 }
 
-// An entry more, behind n others; the words behind it stay.
-pub fn insert(book: &mut [u32], n: usize, e: Entry)
-    requires { (n ≡ length (entries book.old)) × (n * 4 + 4 ≤ length book.old) }
-    ensures { book.new ≡ picture (Changes·insert e (entries book.old)) ++ drop ((n + 1) * 4) book.old }
+// An entry more; the words behind it stay.
+pub fn insert(book: &mut [u32], e: Entry)
+    requires { length (entries book.old) * 4 + 4 ≤ length book.old }
+    ensures { book.new ≡ picture (Changes·insert e (entries book.old)) ++ drop ((length (entries book.old) + 1) * 4) book.old }
 {
+    let n = count(book);
     let mut carried = e;
-    let mut i = 0;
-    while i < n {
+    for i in 0..n {
         carried = pass(book, i, carried);
-        i += 1;
     }
     put_entry(book, n, carried);
 }
@@ -48,21 +44,17 @@ fn pass(book: &mut [u32], i: usize, e: Entry) -> Entry
 }
 
 // The entry at place p goes, and those behind it move up.
-pub fn remove(book: &mut [u32], n: usize, p: usize)
-    requires { (n ≡ length (entries book.old)) × (p < n) }
-    ensures { book.new ≡ take (p * 4) book.old ++ picture (entries (drop ((p + 1) * 4) book.old)) ++ words vacant ++ drop (n * 4) book.old }
+pub fn remove(book: &mut [u32], p: usize)
+    requires { p < length (entries book.old) }
+    ensures { book.new ≡ take (p * 4) book.old ++ picture (entries (drop ((p + 1) * 4) book.old)) ++ words vacant ++ drop (length (entries book.old) * 4) book.old }
 {
-    let mut i = p;
-    while i + 1 < n {
-        let f = entry_at(book, i + 1);
-        put_entry(book, i, f);
-        i += 1;
-    }
+    let n = count(book);
+    book.copy_within((p + 1) * 4..n * 4, p * 4);
     let nothing = Entry {
         high: 0,
         low: 0,
         number: 0,
         shape: 0,
     };
-    put_entry(book, i, nothing);
+    put_entry(book, n - 1, nothing);
 }

@@ -1,7 +1,7 @@
 // What the places of a book hold: the number of their entries, where one stands, and whether the calls can have left such places.
 #![tactic(auto)]
 
-ghost use Rattle.std.specs.Prelude.{◌≡◌, cond, length, position};
+ghost use Rattle.std.specs.Prelude.{◌≡◌, ◌*◌, ◌≤◌, cond, length, position};
 ghost use Rattle.std.proofs.Math.Option.{none, some};
 ghost use Rattle.book_entries.specs.Book.{holds, named, numbered, before, fair, entries, clear, listed};
 ghost use Rattle.book_entries.specs.Left.{left};
@@ -10,7 +10,8 @@ use book_entries::{Entries, Entry, Name};
 
 // How many places are in use.
 pub fn count(book: &[u32]) -> usize
-    ensures { result ≡ length (entries book.now) }
+    ensures is { result ≡ length (entries book.now) }
+    ensures few { result * 4 ≤ length book.now }
 {
     Entries::of(book).count()
 }

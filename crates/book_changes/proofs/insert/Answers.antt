@@ -1,5 +1,4 @@
-use mathlib.Core.Path.{◌≡◌, refl}
-use Prim.Native.Nat.{◌-◌}
+use mathlib.Core.Path.{◌≡◌, refl, ◌∙◌}
 use native.Mathlib.Omega.{arith}
 use Rattle.book_changes.proofs.ChangeLaws.{inserting, inserted_last}
 use Rattle.book_changes.proofs.insert.Goals as goal
@@ -9,17 +8,11 @@ loop-i-preserved c =
     let z = c.loop-i in
     inserting z.invariant (omega arith) (omega arith) c.pass-carried.ensures.0 c.pass-carried.ensures.1
 
-pub returns : goal.returns
-returns c =
-    let z = c.loop-i in
-    let e : z.i ≡ c.args.n = omega arith in
-    rw (← e) (inserted_last z.invariant (omega arith) (rw (← e) at c.put_entry.ensures))
-
 pub loop-i-init : goal.loop-i-init
 loop-i-init c = record { within = omega arith; long = refl; rest = refl; done = refl }
 
-pub pass-carried-requires : goal.pass-carried-requires
-pass-carried-requires c = omega arith
-
-pub put_entry-requires : goal.put_entry-requires
-put_entry-requires c = omega arith
+pub returns : goal.returns
+returns c =
+    let z = c.loop-i in
+    let e : z.i ≡ c.count-n.result = omega arith in
+    rw (← c.count-n.ensures.is, ← e) (inserted_last z.invariant (e ∙ c.count-n.ensures.is) (rw (← e) at c.put_entry.ensures))
