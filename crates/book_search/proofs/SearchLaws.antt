@@ -1,17 +1,21 @@
 -- The test of all places.
-use mathlib.Core.Path.{◌≡◌, refl, ◌∙◌}
+use mathlib.Core.Path.{◌≡◌, refl, sym, ◌∙◌}
 use mathlib.Core.Bool.{Bool, true, false, cond, not}
 use mathlib.Core.List.{List, [], ◌∷◌}
 use mathlib.Core.Option.{none, some}
-use Prim.Native.Nat.{ℕ, ◌*◌, ◌-◌}
+use Prim.Native.Nat.{ℕ, suc, ◌+◌, ◌*◌, ◌-◌, ◌<◌}
 use native.Mathlib.Nat.{le_refl}
+use native.Mathlib.Omega.{arith}
+use borrow.Author.Tests.{ltb-true}
 use lib.Dec.{eqb}
 use lib.ListN.{length, take, drop, length-drop}
 use lib.Seq.{take_all}
-use Rattle.std.specs.List.{list_any, list_all}
+use Rattle.std.specs.Prelude.{Option, Some, None, is_some}
+use Rattle.std.specs.List.{list_any, list_all, position, position_or_len}
 use Rattle.book_entries.specs.declared.Entry.{Entry}
 use Rattle.book_entries.specs.Entries.{text, size, good}
-use Rattle.book_entries.specs.Book.{holds, named, before, fair, orderly, entries, clear, listed}
+use Rattle.book_entries.proofs.Tests.{holds-place}
+use Rattle.book_entries.specs.Book.{place, holds, named, before, fair, orderly, entries, clear, listed}
 
 -- the entry e, with E behind it
 module _ (e : Entry) (E : List Entry) where
@@ -65,3 +69,46 @@ pub all-clear : (w : List ℕ) → list_all (λ (x : ℕ). eqb x 0) w ≡ clear 
 unfolding clear
 all-clear [] = refl
 all-clear (x ∷ w) = rw (all-clear w)
+
+-- the place of the first entry that fits
+place-is : (fits : Entry → Bool) (E : List Entry) → place fits E ≡ position_or_len fits E
+unfolding place
+place-is fits [] = refl
+place-is fits (e ∷ E) = go (fits e) (place-is fits E)
+  where
+    go : (b : Bool) → place fits E ≡ position_or_len fits E → cond b 0 (suc (place fits E)) ≡ cond (not b) (1 + position_or_len fits E) 0
+    go true h = refl
+    go false h = omega (arith, h)
+
+position-is : (fits : Entry → Bool) (E : List Entry) → position fits E ≡ cond (holds fits E) (Some (place fits E)) None
+position-is fits E = rw (holds-place fits E, place-is fits E)
+
+-- p is the place of the first entry of E that fits
+pub record Placed (fits : Entry → Bool) (E : List Entry) (p : ℕ) : Type 0 where
+  pub there : holds fits E ≡ true
+  pub first : p ≡ place fits E
+  pub within : p < length E
+
+module _ (fits : Entry → Bool) (E : List Entry) where
+  pub placed : {p : ℕ} → Some p ≡ position fits E → Placed fits E p
+  placed {p} e = go (holds fits E) refl (e ∙ position-is fits E)
+    where
+      go : (b : Bool) → holds fits E ≡ b → Some p ≡ cond b (Some (place fits E)) None → Placed fits E p
+      go true h q =
+          let f : p ≡ place fits E = cc in
+          record { there = h; first = f; within = omega (arith, f, ltb-true (place fits E) (length E) (sym (holds-place fits E) ∙ h)) }
+      go false h q = absurd (let z : ◌≡◌ {A = ℕ} 0 1 = cc in omega arith)
+
+  pub absent : None ≡ position fits E → holds fits E ≡ false
+  absent e = go (holds fits E) (e ∙ position-is fits E)
+    where
+      go : (b : Bool) → None ≡ cond b (Some (place fits E)) None → b ≡ false
+      go false h = refl
+      go true h = absurd (let z : ◌≡◌ {A = ℕ} 0 1 = cc in omega arith)
+
+  pub held_if : {r : Bool} {o : Option ℕ} → r ≡ is_some o → o ≡ position fits E → holds fits E ≡ r
+  held_if e f = go (holds fits E) (e ∙ rw (f, position-is fits E))
+    where
+      go : {r : Bool} (b : Bool) → r ≡ is_some (cond b (Some (place fits E)) None) → b ≡ r
+      go true h = sym h
+      go false h = sym h

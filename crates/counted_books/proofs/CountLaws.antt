@@ -13,7 +13,8 @@ use borrow.Author.Tests.{le-leb, lt-leb, lt-ltb, le-ltb, eq-eqb, ne_eqb}
 use Rattle.book_entries.specs.Book.{picture, laid, entries, listed}
 use Rattle.book_entries.proofs.Listed.{zeros_none}
 use Rattle.book_changes.proofs.LaidLaws.{drop_zeros}
-use Rattle.counted_books.specs.declared.Free.TheVariants.{Places, Refused}
+use Rattle.std.specs.Prelude.{Ok, Err}
+use Rattle.counted_books.specs.declared.Refusal.TheVariants.{NotABook}
 use Rattle.counted_books.specs.Counted.{high, low, left, room, shown, held, recounted, emptied, free}
 
 -- what is lent of a slice from its third word on
@@ -30,23 +31,23 @@ short-held [] p = refl
 short-held (h ∷ []) p = refl
 short-held (h ∷ l ∷ w) p = absurd (omega arith)
 
-pub short-free : (w : List ℕ) → length w < 2 → Refused 18 ≡ free w
+pub short-free : (w : List ℕ) → length w < 2 → Err NotABook ≡ free w
 unfolding free
 short-free [] p = refl
 short-free (h ∷ []) p = refl
 short-free (h ∷ l ∷ w) p = absurd (omega arith)
 
 -- the number k in front, and the room for as many names
-kept : (w : List ℕ) {k : ℕ} → 2 ≤ length w → k ≡ get_or w 0 0 * 4294967296 + get_or w 1 0 → free w ≡ cond (leb k (room w)) (Places k) (Refused 18)
+kept : (w : List ℕ) {k : ℕ} → 2 ≤ length w → k ≡ get_or w 0 0 * 4294967296 + get_or w 1 0 → free w ≡ cond (leb k (room w)) (Ok k) (Err NotABook)
 unfolding free
 kept [] p e = absurd (omega arith)
 kept (h ∷ []) p e = absurd (omega arith)
 kept (h ∷ l ∷ w) p e = rw e
 
-pub kept_free : (w : List ℕ) {k : ℕ} → 2 ≤ length w → k ≡ get_or w 0 0 * 4294967296 + get_or w 1 0 → k ≤ room w → Places k ≡ free w
+pub kept_free : (w : List ℕ) {k : ℕ} → 2 ≤ length w → k ≡ get_or w 0 0 * 4294967296 + get_or w 1 0 → k ≤ room w → Ok k ≡ free w
 kept_free w {k} p e h = rw (kept w p e, le-leb k (room w) h)
 
-pub wrong_free : (w : List ℕ) {k : ℕ} → 2 ≤ length w → k ≡ get_or w 0 0 * 4294967296 + get_or w 1 0 → room w < k → Refused 18 ≡ free w
+pub wrong_free : (w : List ℕ) {k : ℕ} → 2 ≤ length w → k ≡ get_or w 0 0 * 4294967296 + get_or w 1 0 → room w < k → Err NotABook ≡ free w
 wrong_free w {k} p e h = rw (kept w p e, lt-leb k (room w) h)
 
 front : (w : List ℕ) {k : ℕ} → 2 ≤ length w → k ≡ left (drop 2 w) → held w ≡ cond (eqb (get_or w 0 0) (high k) && eqb (get_or w 1 0) (low k)) (listed (drop 2 w)) none

@@ -13,7 +13,7 @@ use Rattle.book_entries.specs.Book.{orderly, laid, entries, listed}
 use Rattle.book_entries.proofs.Places.{places}
 use Rattle.book_entries.proofs.Tests.{both}
 use Rattle.book_entries.proofs.Listed.{listing, laid-is, laid-length, listed-laid}
-use Rattle.counted_books.specs.declared.Free.TheVariants.{Places}
+use Rattle.std.specs.Prelude.{Ok}
 use Rattle.counted_books.specs.Counted.{high, low, left, room, shown, held, recounted, free}
 use Rattle.counted_books.specs.Holding.{Fits, Holding}
 
@@ -37,7 +37,7 @@ holding (h ∷ l ∷ w) {E} e =
       places = j.1;
       fits = record { orderly = i.orderly; few = omega (arith, places w, ap length i.is) };
       is = rw (n, ← hi, ← lo) (ap (λ (v : List ℕ). h ∷ l ∷ v) (laid-is j.1));
-      free = rw (le-leb (h * 4294967296 + l) (room (h ∷ l ∷ w)) (omega (arith, hi, lo))) (ap Places (omega (arith, hi, lo)));
+      free = rw (le-leb (h * 4294967296 + l) (room (h ∷ l ∷ w)) (omega (arith, hi, lo))) (ap (λ (k : ℕ). Ok k) (omega (arith, hi, lo)));
     }
 
 -- n words that hold E

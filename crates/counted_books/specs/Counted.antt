@@ -1,10 +1,14 @@
 -- "Keep the number in the book itself": a book is the number of its free places, in two words, and the places behind them.
-use Rattle.std.specs.Prelude.{cond, ◌&&◌, List, [], ◌∷◌, ℕ, ◌+◌, ◌*◌, ◌/◌, ◌%◌, ◌-◌, leb, ltb, eqb, length, drop, replicate}
+use Rattle.std.specs.Prelude.{cond, ◌&&◌, List, [], ◌∷◌, ℕ, ◌+◌, ◌*◌, ◌/◌, ◌%◌, ◌-◌, leb, ltb, eqb, length, drop, replicate, Result, Ok, Err}
 use Rattle.std.proofs.Math.Option.{Option, none}
 use Rattle.book_entries.specs.declared.Entry.{Entry}
 use Rattle.book_entries.specs.Book.{laid, entries, listed}
-use Rattle.counted_books.specs.declared.Free.{Free}
-use Rattle.counted_books.specs.declared.Free.TheVariants.{Places, Refused}
+use Rattle.counted_books.specs.declared.Refusal.{Refusal}
+use Rattle.counted_books.specs.declared.Refusal.TheVariants.{NotABook}
+
+-- the number of a refusal in docs/REFUSALS.md
+abbrev pub number : Refusal → ℕ
+number NotABook = 18
 
 -- a number in two words of 32 bits, the high one first
 abbrev pub high : ℕ → ℕ
@@ -41,7 +45,7 @@ unfolding shown
 emptied n = cond (ltb n 2) (replicate n 0) (shown n [])
 
 -- "how many names the book still takes": the number that is kept, without a look at the places; "18 .. also for a wrong number": here for one above what there is room for
-unfoldable pub free : List ℕ → Free
-free [] = Refused 18
-free (h ∷ []) = Refused 18
-free (h ∷ l ∷ w) = cond (leb (h * 4294967296 + l) (room (h ∷ l ∷ w))) (Places (h * 4294967296 + l)) (Refused 18)
+unfoldable pub free : List ℕ → Result ℕ Refusal
+free [] = Err NotABook
+free (h ∷ []) = Err NotABook
+free (h ∷ l ∷ w) = cond (leb (h * 4294967296 + l) (room (h ∷ l ∷ w))) (Ok (h * 4294967296 + l)) (Err NotABook)

@@ -1,9 +1,8 @@
 -- "Keep the number in the book itself, correct after every add, withdrawal, load and refusal": what is true of a slice that holds entries.
-use Rattle.std.specs.Prelude.{◌≡◌, true, List, ℕ, ◌-◌, ◌≤◌, length, drop}
+use Rattle.std.specs.Prelude.{◌≡◌, true, List, ℕ, ◌-◌, ◌≤◌, length, drop, Ok}
 use Rattle.std.proofs.Math.Option.{some}
 use Rattle.book_entries.specs.declared.Entry.{Entry}
 use Rattle.book_entries.specs.Book.{orderly, listed}
-use Rattle.counted_books.specs.declared.Free.TheVariants.{Places}
 use Rattle.counted_books.specs.Counted.{room, shown, free}
 
 -- entries that so many places can hold: each name and each number once, by rising number, and no more than there are places
@@ -20,4 +19,4 @@ pub record Holding (w : List ℕ) (E : List Entry) : Type 0 where
   -- no other words of this length hold E
   pub is : w ≡ shown (length w) E
   -- "how many names the book still takes"
-  pub free : free w ≡ Places (room w - length E)
+  pub free : free w ≡ Ok (room w - length E)

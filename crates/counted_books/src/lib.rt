@@ -4,31 +4,40 @@
 ghost use Rattle.std.specs.Prelude.{◌≡◌, cond, ◌+◌, ◌*◌, ◌/◌, ◌-◌, ◌≤◌, length, drop};
 ghost use Rattle.std.proofs.Math.Option.{none, some};
 ghost use Rattle.book_entries.specs.Book.{entries};
-ghost use Rattle.counted_books.specs.Counted.{left, held, recounted, emptied, free};
+ghost use Rattle.counted_books.specs.Counted.{number, left, held, recounted, emptied, free};
 
 use book_changes::empty;
-use book_entries::wide;
 use book_search::{count, sound};
 
-// Places: how many names the book still takes.
-#[derive(Clone, Copy)]
-pub enum Free {
-    Places { count: u64 },
-    Refused { number: u64 },
+// Why the free places of a slice are not told.
+#[derive(Clone, Copy, PartialEq, Eq)]
+pub enum Refusal {
+    NotABook,
 }
 
-// The number that is kept. The places are not looked at, so that a wrong number is told where the slice has room for so many names.
-pub fn free_places(book: &[u32]) -> Free
+impl Refusal {
+    // Its number in docs/REFUSALS.md.
+    pub fn number(self) -> u64
+        ensures { result ≡ number self }
+    {
+        match self {
+            Refusal::NotABook => 18,
+        }
+    }
+}
+
+// How many names the book still takes, by the number that is kept. The places are not looked at, so that a wrong number is told where the slice has room for so many names.
+pub fn free_places(book: &[u32]) -> Result<u64, Refusal>
     ensures { result ≡ free book.now }
 {
     if book.len() < 2 {
-        return Free::Refused { number: 18 };
+        return Err(Refusal::NotABook);
     }
     let count = joined(book[0], book[1]);
     if count <= ((book.len() - 2) / 4) as u64 {
-        return Free::Places { count: count };
+        return Ok(count);
     }
-    Free::Refused { number: 18 }
+    Err(Refusal::NotABook)
 }
 
 // "One call empties any slice."
@@ -50,10 +59,10 @@ pub fn sound_book(book: &[u32]) -> bool
         return false;
     }
     let k = left_in(&book[2..]);
-    if wide(book[0]) != k / 4294967296 {
+    if u64::from(book[0]) != k / 4294967296 {
         return false;
     }
-    if wide(book[1]) != k % 4294967296 {
+    if u64::from(book[1]) != k % 4294967296 {
         return false;
     }
     sound(&book[2..])
@@ -80,5 +89,5 @@ fn left_in(places: &[u32]) -> u64
 fn joined(high: u32, low: u32) -> u64
     ensures { result ≡ high * 4294967296 + low }
 {
-    wide(high) * 4294967296 + wide(low)
+    u64::from(high) * 4294967296 + u64::from(low)
 }

@@ -13,20 +13,22 @@ use borrow.Author.Tests.{lt-ltb, le-ltb}
 use borrow.Rule.Slice.PartMut.{put_mid}
 use Rattle.book_entries.specs.declared.Entry.{Entry}
 use Rattle.book_entries.specs.Entries.{text, size, bytes, good, words, entry_at}
-use Rattle.book_entries.specs.Book.{place, holds, named, numbered, picture, laid, entries, listed}
+use Rattle.book_entries.specs.Book.{holds, named, numbered, picture, laid, entries, listed}
+use Rattle.std.specs.Prelude.{Option, Some, None, Result, Ok, Err}
 use Rattle.book_entries.proofs.Places.{from, next_of}
-use Rattle.book_entries.proofs.Tests.{holds-place}
 use Rattle.book_entries.proofs.Listed.{listing, laid-is}
 use Rattle.book_changes.specs.Changes.{insert, vacant}
 use Rattle.book_changes.proofs.LaidLaws.{laid-insert, laid-without}
+use Rattle.book_search.proofs.SearchLaws.{Placed}
 use Rattle.counted_books.specs.Counted.{room, shown, held, recounted}
 use Rattle.counted_books.proofs.CountLaws.{lent, lent_is}
 use Rattle.counted_books.specs.Holding.{Fits}
 use Rattle.counted_books.proofs.Held.{holding, recounted-shown}
 use Rattle.name_book.specs.declared.Added.{Added}
-use Rattle.name_book.specs.declared.Added.TheVariants.{New, Repeated, NoName, Refused}
-use Rattle.name_book.specs.declared.Withdrawn as withdrawn
-use Rattle.name_book.specs.declared.Found as found
+use Rattle.name_book.specs.declared.Added.TheVariants.{New, Repeated, NoName}
+use Rattle.name_book.specs.declared.Refusal.{Refusal}
+use Rattle.name_book.specs.declared.Refusal.TheVariants.{NotABook, NumberHeld, NoSuchFrame, BookFull}
+use Rattle.name_book.specs.declared.Frame.{Frame}
 use Rattle.name_book.specs.Calls.{opened, changed, first, offer, take_out, find, look_up, Leaves}
 
 -- what the test of the slice has said
@@ -58,14 +60,6 @@ module _ (w : List ℕ) {E : List Entry} (h : held w ≡ some E) where
   pub back_long : (v : List ℕ) → 2 ≤ length (put_mid 2 (length w - 2) w v)
   back_long v = rw (put_back v) (omega (arith, length-append (take 2 w) v, length-take-le 2 w lent-long))
 
--- p is the first place that fits, of n
-module _ (fits : Entry → Bool) (E : List Entry) {p n : ℕ} (a : p ≡ place fits E) (b : n ≡ length E) where
-  pub present : p < n → holds fits E ≡ true
-  present h = holds-place fits E ∙ lt-ltb (place fits E) (length E) (omega arith)
-
-  pub absent : n ≤ p → holds fits E ≡ false
-  absent h = holds-place fits E ∙ le-ltb (place fits E) (length E) (omega arith)
-
 from-drop : (w : List ℕ) (i : ℕ) → i ≤ length (entries w) → drop i (entries w) ≡ from w i
 from-drop w zero p = refl
 from-drop w (suc i) p =
@@ -78,6 +72,10 @@ entry_of w i p =
     let e : i + 0 ≡ i = omega arith in
     let g : get_or (drop i (entries w)) 0 vacant ≡ get_or (entries w) (i + 0) vacant = get_or-drop i (entries w) 0 vacant in
     rw e at (sym g) ∙ rw (from-drop w i (omega arith), next_of w i p)
+
+-- the entry at the first place that fits
+pub first-of : (w : List ℕ) {fits : Entry → Bool} {p : ℕ} {f : Entry} → Placed fits (entries w) p → f ≡ entry_at w p → f ≡ first fits (entries w)
+first-of w {p = p} a is = is ∙ sym (entry_of w p a.within) ∙ ap (λ (i : ℕ). get_or (entries w) i vacant) a.first
 
 module _ {A : Type 0} (refusal : A) (w : List ℕ) where
   pub opened-none : (call : List Entry → A × List Entry) → held w ≡ none → Leaves refusal w (opened w refusal call)
@@ -107,56 +105,55 @@ module _ {A : Type 0} (w : List ℕ) (call : ℕ → List Entry → A × List En
 
 -- the entry e is offered to places that list their entries
 module _ (w : List ℕ) (e : Entry) (h : listed w ≡ some (entries w)) where
-  same : {a : Added} → offer (length w / 4) e (entries w) ≡ (a, entries w) → Leaves a w (changed w (λ n. offer n e))
+  same : {a : Result Added Refusal} → offer (length w / 4) e (entries w) ≡ (a, entries w) → Leaves a w (changed w (λ n. offer n e))
   same o = changed-not w (λ n. offer n e) h o
 
-  pub add_taken : holds (numbered e.number) (entries w) ≡ true → Leaves (Refused 12) w (changed w (λ n. offer n e))
+  pub add_taken : holds (numbered e.number) (entries w) ≡ true → Leaves (Err NumberHeld) w (changed w (λ n. offer n e))
   unfolding offer
   add_taken t = same (rw t)
 
   module _ (t : holds (numbered e.number) (entries w) ≡ false) where
-    pub add-nameless : good e ≡ false → Leaves NoName w (changed w (λ n. offer n e))
+    pub add-nameless : good e ≡ false → Leaves (Ok NoName) w (changed w (λ n. offer n e))
     unfolding offer
     add-nameless g = same (rw (t, g))
 
     module _ (g : good e ≡ true) where
-      pub add_repeated : {k : ℕ} → holds (named (text e) (size e)) (entries w) ≡ true → k ≡ (first (named (text e) (size e)) (entries w)).number → Leaves (Repeated k) w (changed w (λ n. offer n e))
+      pub add_repeated : {k : ℕ} → holds (named (text e) (size e)) (entries w) ≡ true → k ≡ (first (named (text e) (size e)) (entries w)).number → Leaves (Ok (Repeated k)) w (changed w (λ n. offer n e))
       unfolding offer
       add_repeated n k = same (rw (t, g, n, k))
 
       module _ (n : holds (named (text e) (size e)) (entries w) ≡ false) where
-        pub add_full : length w / 4 ≤ length (entries w) → Leaves (Refused 10) w (changed w (λ n. offer n e))
+        pub add_full : length w / 4 ≤ length (entries w) → Leaves (Err BookFull) w (changed w (λ n. offer n e))
         unfolding offer
         add_full r = same (rw (t, g, n, le-ltb (length (entries w)) (length w / 4) r))
 
-        pub add-new : {v : List ℕ} → length (entries w) < length w / 4 → v ≡ picture (insert e (entries w)) ++ drop ((length (entries w) + 1) * 4) w → Leaves New v (changed w (λ n. offer n e))
+        pub add-new : {v : List ℕ} → length (entries w) < length w / 4 → v ≡ picture (insert e (entries w)) ++ drop ((length (entries w) + 1) * 4) w → Leaves (Ok New) v (changed w (λ n. offer n e))
         unfolding offer
         add-new r x = changed_to w (λ n. offer n e) (rw (t, g, n, lt-ltb (length (entries w)) (length w / 4) r)) (laid-insert (listing h) e x)
 
 module _ (w : List ℕ) (k : ℕ) (h : listed w ≡ some (entries w)) where
-  pub withdraw-absent : holds (numbered k) (entries w) ≡ false → Leaves (withdrawn.TheVariants.Refused 11) w (changed w (λ n. take_out k))
+  pub withdraw-absent : holds (numbered k) (entries w) ≡ false → Leaves (Err NoSuchFrame) w (changed w (λ n. take_out k))
   unfolding take_out
   withdraw-absent n = changed-not w (λ n. take_out k) h (rw n)
 
-  -- its place is p, of n
-  pub withdraw_gone : {p n : ℕ} {v : List ℕ} → p ≡ place (numbered k) (entries w) → n ≡ length (entries w) → p < n → v ≡ take (p * 4) w ++ picture (from w (p + 1)) ++ words vacant ++ drop (n * 4) w → Leaves withdrawn.TheVariants.Gone v (changed w (λ n. take_out k))
+  -- its place is p
+  pub withdraw_gone : {p : ℕ} {v : List ℕ} → Placed (numbered k) (entries w) p → v ≡ take (p * 4) w ++ picture (from w (p + 1)) ++ words vacant ++ drop (length (entries w) * 4) w → Leaves (Ok tt) v (changed w (λ n. take_out k))
   unfolding take_out
-  withdraw_gone a b l x =
-      changed_to w (λ n. take_out k) (rw (present (numbered k) (entries w) a b l)) (laid-without (listing h) k (omega arith) (rw (a, b) at x))
+  withdraw_gone a x = changed_to w (λ n. take_out k) (rw a.there) (laid-without (listing h) k (omega (arith, a.within, a.first)) (rw a.first at x))
 
-pub look-up_unsound : (w : List ℕ) (t s : ℕ) → held w ≡ none → found.TheVariants.Refused 18 ≡ look_up w t s
+pub look-up_unsound : (w : List ℕ) (t s : ℕ) → held w ≡ none → Err NotABook ≡ look_up w t s
 unfolding look_up
 look-up_unsound w t s h = rw (h, look_up)
 
-pub look-up-held : (w : List ℕ) (t s : ℕ) {E : List Entry} {r : found.Found} → held w ≡ some E → r ≡ find t s (entries (lent w)) → r ≡ look_up w t s
+pub look-up-held : (w : List ℕ) (t s : ℕ) {E : List Entry} {r : Option Frame} → held w ≡ some E → r ≡ find t s (entries (lent w)) → Ok r ≡ look_up w t s
 unfolding look_up
-look-up-held w t s h e = rw (h, look_up) (e ∙ rw (lent-entries w h))
+look-up-held w t s h e = rw (h, look_up) (ap (λ (f : Option Frame). Ok f) (e ∙ rw (lent-entries w h)))
 
 module _ (w : List ℕ) (t s : ℕ) where
-  pub find_nowhere : holds (named t s) (entries w) ≡ false → found.TheVariants.Nowhere ≡ find t s (entries w)
+  pub find_nowhere : holds (named t s) (entries w) ≡ false → None ≡ find t s (entries w)
   unfolding find
   find_nowhere n = rw n
 
-  pub find_at : {e : Entry} → holds (named t s) (entries w) ≡ true → e ≡ first (named t s) (entries w) → found.TheVariants.At e.number (bytes e) ≡ find t s (entries w)
+  pub find_at : {e : Entry} → holds (named t s) (entries w) ≡ true → e ≡ first (named t s) (entries w) → Some (record { number = e.number; bytes = bytes e }) ≡ find t s (entries w)
   unfolding find
   find_at n f = rw (n, f)

@@ -5,7 +5,8 @@ use lib.ListN.{drop}
 use Rattle.book_entries.specs.Book.{entries}
 use Rattle.counted_books.specs.Counted.{held, room}
 use Rattle.counted_books.proofs.Held.{holding}
-use Rattle.name_book.specs.declared.Added.TheVariants.{Refused}
+use Rattle.std.specs.Prelude.{Err}
+use Rattle.name_book.specs.declared.Refusal.TheVariants.{NotABook}
 use Rattle.name_book.specs.Calls.{offer, add}
 use Rattle.name_book.proofs.FitLaws.{offered}
 use Rattle.name_book.proofs.CallLaws.{unheld, is_held, lent-long, lent-listed, back_long, opened-none, opened-changed}
@@ -31,7 +32,7 @@ pub returns-then-not-sound_book : goal.returns-then-not-sound_book
 unfolding add
 returns-then-not-sound_book c =
     let a = c.args in
-    opened-none (Refused 18) a.book.now _ (unheld a.book.now c.sound_book.ensures c.if-not-sound_book.true)
+    opened-none (Err NotABook) a.book.now _ (unheld a.book.now c.sound_book.ensures c.if-not-sound_book.true)
 
 pub returns : goal.returns
 unfolding add
@@ -39,4 +40,4 @@ returns c =
     let w = c.args.book.now in
     let h = is-sound (goal.at.returns c).Else-not-sound_book in
     let E = entries (drop 2 w) in
-    opened-changed (Refused 18) w (λ n. offer n c.args.e) h (offered (room w) E (holding w h).fits c.args.e) c.add_at-added.ensures c.recount.ensures
+    opened-changed (Err NotABook) w (λ n. offer n c.args.e) h (offered (room w) E (holding w h).fits c.args.e) c.add_at-added.ensures c.recount.ensures

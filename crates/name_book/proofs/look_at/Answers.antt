@@ -1,27 +1,24 @@
 -- Each way through the code is one of the definition.
-use mathlib.Core.Path.{◌≡◌, sym, ap, ◌∙◌}
-use Prim.Native.Nat.{ℕ}
-use native.Mathlib.Nat.{zero-add}
-use native.Mathlib.Omega.{arith}
-use lib.ListN.{get_or}
-use Rattle.book_entries.specs.Book.{place, named, entries}
+use mathlib.Core.Path.{◌∙◌}
+use Rattle.book_entries.specs.Book.{named, entries}
 use Rattle.book_entries.proofs.Places.{inside_of}
-use Rattle.book_changes.specs.Changes.{vacant}
-use Rattle.name_book.proofs.CallLaws.{present, absent, entry_of, find_nowhere, find_at}
+use Rattle.book_search.proofs.SearchLaws.{Placed, placed, absent}
+use Rattle.name_book.proofs.CallLaws.{first-of, find_nowhere, find_at}
+use Rattle.name_book.proofs.look_at.Goals.{In_ok-p}
 use Rattle.name_book.proofs.look_at.Goals as goal
 
-pub returns-then-n-p : goal.returns-then-n-p
-returns-then-n-p c =
+at : (c : In_ok-p) → Placed (named c.args.name.text c.args.name.size) (entries c.args.places.now) c.in_ok-p.p
+at c = placed (named c.args.name.text c.args.name.size) (entries c.args.places.now) c.in_ok-p.ensures
+
+pub returns-in_err-p : goal.returns-in_err-p
+returns-in_err-p c =
     let a = c.args in
-    find_nowhere a.places.now a.name a.size (absent (named a.name a.size) (entries a.places.now) (c.find_name-p.ensures ∙ zero-add _) c.count-n.ensures c.if-n-p.true)
+    c.from_residual.ensures ∙ find_nowhere a.places.now a.name.text a.name.size (absent (named a.name.text a.name.size) (entries a.places.now) c.in_err-p.ensures)
 
 pub entry_at-e-requires : goal.entry_at-e-requires
-entry_at-e-requires c = inside_of c.args.places.now c.find_name-p.result (omega arith)
+entry_at-e-requires c = inside_of c.args.places.now c.in_ok-p.p (at (goal.at.entry_at-e-requires c).In_ok-p).within
 
 pub returns : goal.returns
 returns c =
-    let a = c.args in
-    let e : c.find_name-p.result ≡ place (named a.name a.size) (entries a.places.now) = c.find_name-p.ensures ∙ zero-add _ in
-    find_at a.places.now a.name a.size
-    (present (named a.name a.size) (entries a.places.now) e c.count-n.ensures c.if-n-p.false)
-    (c.entry_at-e.ensures ∙ sym (entry_of a.places.now c.find_name-p.result (omega arith)) ∙ ap (λ (i : ℕ). get_or (entries a.places.now) i vacant) e)
+    let p = at (goal.at.returns c).In_ok-p in
+    rw c.bytes.ensures (find_at c.args.places.now c.args.name.text c.args.name.size p.there (first-of c.args.places.now p c.entry_at-e.ensures))

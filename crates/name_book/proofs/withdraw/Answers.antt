@@ -5,7 +5,8 @@ use lib.ListN.{drop}
 use Rattle.book_entries.specs.Book.{entries}
 use Rattle.counted_books.specs.Counted.{held, room}
 use Rattle.counted_books.proofs.Held.{holding}
-use Rattle.name_book.specs.declared.Withdrawn.TheVariants.{Refused}
+use Rattle.std.specs.Prelude.{Err}
+use Rattle.name_book.specs.declared.Refusal.TheVariants.{NotABook}
 use Rattle.name_book.specs.Calls.{take_out, withdraw}
 use Rattle.name_book.proofs.FitLaws.{taken}
 use Rattle.name_book.proofs.CallLaws.{unheld, is_held, lent-long, lent-listed, back_long, opened-none, opened-changed}
@@ -31,7 +32,7 @@ pub returns-then-not-sound_book : goal.returns-then-not-sound_book
 unfolding withdraw
 returns-then-not-sound_book c =
     let a = c.args in
-    opened-none (Refused 18) a.book.now _ (unheld a.book.now c.sound_book.ensures c.if-not-sound_book.true)
+    opened-none (Err NotABook) a.book.now _ (unheld a.book.now c.sound_book.ensures c.if-not-sound_book.true)
 
 pub returns : goal.returns
 unfolding withdraw
@@ -39,4 +40,4 @@ returns c =
     let w = c.args.book.now in
     let h = is-sound (goal.at.returns c).Else-not-sound_book in
     let E = entries (drop 2 w) in
-    opened-changed (Refused 18) w (λ n. take_out c.args.number) h (taken (room w) E (holding w h).fits c.args.number) c.withdraw_at-withdrawn.ensures c.recount.ensures
+    opened-changed (Err NotABook) w (λ n. take_out c.args.number) h (taken (room w) E (holding w h).fits c.args.number) c.withdraw_at-withdrawn.ensures c.recount.ensures
