@@ -5,7 +5,7 @@ ghost use Rattle.std.specs.Prelude.{◌≡◌, ◌+◌, ◌*◌, ◌≤◌, ◌<
 ghost use Rattle.book_entries.specs.Entries.{size};
 ghost use Rattle.book_lines.specs.Lines.{digit as Lines·digit, digits, put, line};
 
-use book_entries::{Entry, text, unit, wide};
+use book_entries::{Entry, unit};
 
 // The line of an entry from byte `at` on; the other bytes stay.
 pub fn put_line(out: &mut [u8], at: usize, e: Entry)
@@ -13,9 +13,9 @@ pub fn put_line(out: &mut [u8], at: usize, e: Entry)
     ensures { out.new ≡ put at (line e) out.old }
 {
     let width = name_digits(e);
-    put_digits(out, at, width, text(e) / unit(e.shape / 1048576));
-    put_digits(out, at + width, 8, wide(e.number));
-    put_digits(out, at + width + 8, 5, wide(e.shape % 1048576));
+    put_digits(out, at, width, e.text() / unit(e.size()));
+    put_digits(out, at + width, 8, u64::from(e.number));
+    put_digits(out, at + width + 8, 5, u64::from(e.bytes()));
     out[at + width + 13] = b'\n';
 }
 
@@ -23,7 +23,7 @@ pub fn put_line(out: &mut [u8], at: usize, e: Entry)
 pub fn name_digits(e: Entry) -> usize
     ensures { result ≡ size e * 2 }
 {
-    (e.shape / 1048576 * 2) as usize
+    (e.size() * 2) as usize
 }
 
 // The last n digits of x from byte `at` on.
@@ -32,11 +32,9 @@ fn put_digits(out: &mut [u8], at: usize, n: usize, x: u64)
     ensures { out.new ≡ put at (digits n x) out.old }
 {
     let mut rest = x;
-    let mut k = n;
-    while 0 < k {
-        k -= 1;
+    for k in (0..n).rev() {
         out[at + k] = digit(rest % 16);
-        rest = rest / 16;
+        rest /= 16;
     }
 }
 

@@ -25,10 +25,10 @@ returns c =
     let q = digits-length 8 a.e.number in
     let r = digits-length 5 (bytes a.e) in
     chained a.at name number last a.out.now 10
-    (rw (d.ensures, c.text.ensures, c.unit.ensures) at c.put_digits.ensures)
-    (rw c.wide.ensures at c.put_digits-2.ensures)
+    (rw (d.ensures, c.text.ensures, c.unit.ensures, c.size.ensures) at c.put_digits.ensures)
+    (rw c.from.ensures at c.put_digits-2.ensures)
     (omega (arith, d.ensures, p))
-    (rw c.wide-2.ensures at c.put_digits-3.ensures)
+    (rw (c.from-2.ensures, c.bytes.ensures) at c.put_digits-3.ensures)
     (omega (arith, q))
     refl
     (omega (arith, r))
