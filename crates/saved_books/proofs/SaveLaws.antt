@@ -1,17 +1,16 @@
 -- The lines of the entries from one place on.
-use mathlib.Core.Path.{◌≡◌, sym, ap, ◌∙◌}
+use mathlib.Core.Path.{◌≡◌, sym, ◌∙◌}
 use mathlib.Core.Bool.{true}
 use mathlib.Core.List.{List, [], ◌∷◌, append-nil}
 use mathlib.Core.Option.{none, some}
-use Prim.Native.Nat.{ℕ, ◌+◌, ◌*◌, ◌-◌, ◌≤◌, ◌<◌}
+use Prim.Native.Nat.{ℕ, ◌+◌, ◌*◌, ◌≤◌, ◌<◌}
 use native.Mathlib.Nat.{zero-add}
 use native.Mathlib.Omega.{arith}
 use lib.ListN.{length, take, length-append, take-append-drop}
 use borrow.Author.Tests.{le-leb, lt-leb}
 use Rattle.book_entries.specs.declared.Entry.{Entry}
-use Rattle.book_entries.specs.Entries.{size, good, entry_at}
+use Rattle.book_entries.specs.Entries.{size}
 use Rattle.book_entries.specs.Book.{orderly, entries}
-use Rattle.book_entries.proofs.Places.{from, next_of, last}
 use Rattle.book_entries.proofs.GoodEntries.{numbers}
 use Rattle.book_changes.proofs.Orderly.{first-fair, others}
 use Rattle.book_lines.specs.Lines.{line, saved, put}
@@ -21,46 +20,47 @@ use Rattle.counted_books.proofs.CountLaws.{lent}
 use Rattle.counted_books.proofs.Held.{holding}
 use Rattle.name_book.specs.Calls.{Leaves}
 use Rattle.name_book.proofs.CallLaws.{lent-entries}
-use Rattle.saved_books.specs.declared.Saved.{Saved}
-use Rattle.saved_books.specs.declared.Saved.TheVariants.{Wrote, Refused}
+use Rattle.std.specs.Prelude.{Result, Ok, Err}
+use Rattle.saved_books.specs.declared.Refusal.{Refusal}
+use Rattle.saved_books.specs.declared.Refusal.TheVariants.{NotABook, TooFewBytes}
 use Rattle.saved_books.specs.Saves.{settled, save}
 
-module _ (w : List ℕ) (i : ℕ) (p : i < length (entries w)) (o : orderly (from w i) ≡ true) where
-  split : orderly (entry_at w i ∷ from w (i + 1)) ≡ true
-  split = rw (next_of w i p) at o
+-- the entries F are left, the first of them e
+module _ {F E : List Entry} {e : Entry} (is : F ≡ e ∷ E) where
+  module _ (o : orderly F ≡ true) where
+    split : orderly (e ∷ E) ≡ true
+    split = rw is at o
 
-  pub next-size : (2 ≤ size (entry_at w i)) × (size (entry_at w i) ≤ 8)
-  next-size = let n = numbers (entry_at w i) (first-fair (entry_at w i) (from w (i + 1)) split).good in (n.least, n.most)
+    pub next-size : (2 ≤ size e) × (size e ≤ 8)
+    next-size = let n = numbers e (first-fair e E split).good in (n.least, n.most)
 
-  pub next-orderly : orderly (from w (i + 1)) ≡ true
-  next-orderly = others (entry_at w i) (from w (i + 1)) split
+    pub next-orderly : orderly E ≡ true
+    next-orderly = others e E split
 
-module _ (w : List ℕ) (i : ℕ) (p : i < length (entries w)) where
-  pub next-length : length (saved (from w i)) ≡ size (entry_at w i) * 2 + 14 + length (saved (from w (i + 1)))
+  pub next-length : length (saved F) ≡ size e * 2 + 14 + length (saved E)
   unfolding saved
-  next-length = rw (next_of w i p) (length-append (line (entry_at w i)) (saved (from w (i + 1))) ∙ omega (arith, line-length (entry_at w i)))
+  next-length = rw is (length-append (line e) (saved E) ∙ omega (arith, line-length e))
 
-  -- v as it was, with the line of e, the entry at place i, put at `at`
-  pub next-line : (at : ℕ) (v : List ℕ) {e : Entry} {y v' : List ℕ} {j : ℕ} → e ≡ entry_at w i → y ≡ put at (saved (from w i)) v → v' ≡ put at (line e) v → j ≡ at + (size e * 2 + 14) → at + (size e * 2 + 14) ≤ length v → y ≡ put j (saved (from w (i + 1))) v'
+  -- v as it was, with the line of e put at `at`
+  pub next-line : (at : ℕ) (v : List ℕ) {y v' : List ℕ} {j : ℕ} → y ≡ put at (saved F) v → v' ≡ put at (line e) v → j ≡ at + (size e * 2 + 14) → at + (size e * 2 + 14) ≤ length v → y ≡ put j (saved E) v'
   unfolding saved
-  next-line at v {e = e} {j = j} is h g k q =
-      let n : from w i ≡ e ∷ from w (i + 1) = next_of w i p ∙ ap (λ (f : Entry). f ∷ from w (i + 1)) (sym is) in
+  next-line at v {j = j} h g k q =
       let l : j ≡ at + length (line e) = omega (arith, line-length e) in
-      rw (h, n, g, l) (sym (put-put at (line e) v (omega (arith, line-length e)) (saved (from w (i + 1)))))
+      rw (h, is, g, l) (sym (put-put at (line e) v (omega (arith, line-length e)) (saved E)))
 
 -- nothing is left
-pub ended : (w : List ℕ) (i at : ℕ) (v : List ℕ) {y : List ℕ} → i ≡ length (entries w) → y ≡ put at (saved (from w i)) v → v ≡ y
-unfolding saved put
-ended w i at v e h =
-    let l : from w i ≡ [] = rw e (last w) in
-    let a : at + 0 ≡ at = omega arith in
-    sym (h ∙ rw (l, a, append-nil (take at v)) (take-append-drop at v))
+module _ {F : List Entry} (is : F ≡ []) where
+  pub ended : (at : ℕ) (v : List ℕ) {y : List ℕ} → y ≡ put at (saved F) v → v ≡ y
+  unfolding saved put
+  ended at v h =
+      let a : at + 0 ≡ at = omega arith in
+      sym (h ∙ rw (is, a, append-nil (take at v)) (take-append-drop at v))
 
-pub no_bytes : (w : List ℕ) (i : ℕ) → i ≡ length (entries w) → length (saved (from w i)) ≡ 0
-unfolding saved
-no_bytes w i e = let l : from w i ≡ [] = rw e (last w) in rw l
+  pub no_bytes : length (saved F) ≡ 0
+  unfolding saved
+  no_bytes = rw is
 
-pub save_unsound : (w out : List ℕ) → held w ≡ none → Leaves (Refused 18 0) out (save w out)
+pub save_unsound : (w out : List ℕ) → held w ≡ none → Leaves (Err NotABook) out (save w out)
 unfolding save
 save_unsound w out h = record { is = rw (h, save) }
 
@@ -69,15 +69,15 @@ module _ (w out : List ℕ) {E : List Entry} (h : held w ≡ some E) where
   lent-orderly = rw (lent-entries w h) (holding w h).fits.orderly
 
   -- the places were saved
-  pub save-sound : {r : Saved} {v : List ℕ} → Leaves r v (settled (saved (entries (lent w))) out) → Leaves r v (save w out)
+  pub save-sound : {r : Result ℕ Refusal} {v : List ℕ} → Leaves r v (settled (saved (entries (lent w))) out) → Leaves r v (save w out)
   unfolding save
   save-sound l = record { is = rw (h, save) (rw (lent-entries w h) at l.is) }
 
 module _ (t out : List ℕ) {n : ℕ} (e : n ≡ length t) where
-  pub save-short : length out < n → Leaves (Refused 9 n) out (settled t out)
+  pub save-short : length out < n → Leaves (Err (TooFewBytes n)) out (settled t out)
   unfolding settled
   save-short l = record { is = rw (e, lt-leb (length t) (length out) (omega arith)) }
 
-  pub save_wrote : {v : List ℕ} → n ≤ length out → v ≡ put 0 t out → Leaves (Wrote n) v (settled t out)
+  pub save_wrote : {v : List ℕ} → n ≤ length out → v ≡ put 0 t out → Leaves (Ok n) v (settled t out)
   unfolding settled put
   save_wrote l x = record { is = rw (e, le-leb (length t) (length out) (omega arith), x, zero-add) }

@@ -1,14 +1,19 @@
 -- Saving a book: the complete answer, and what the lent bytes hold afterwards.
-use Rattle.std.specs.Prelude.{cond, List, ◌++◌, ℕ, leb, length, drop}
+use Rattle.std.specs.Prelude.{cond, List, ◌++◌, ℕ, leb, length, drop, Result, Ok, Err}
 use Rattle.std.proofs.Math.Option.{none, some}
 use Rattle.counted_books.specs.Counted.{held}
 use Rattle.book_lines.specs.Lines.{saved}
-use Rattle.saved_books.specs.declared.Saved.{Saved}
-use Rattle.saved_books.specs.declared.Saved.TheVariants.{Wrote, Refused}
+use Rattle.saved_books.specs.declared.Refusal.{Refusal}
+use Rattle.saved_books.specs.declared.Refusal.TheVariants.{NotABook, TooFewBytes}
+
+-- the number of a refusal in docs/REFUSALS.md
+abbrev pub number : Refusal → ℕ
+number NotABook = 18
+number (TooFewBytes need) = 9
 
 -- "9, too few bytes to save into", with the number needed
-unfoldable pub settled : List ℕ → List ℕ → Saved × List ℕ
-settled text out = cond (leb (length text) (length out)) (Wrote (length text), text ++ drop (length text) out) (Refused 9 (length text), out)
+unfoldable pub settled : List ℕ → List ℕ → Result ℕ Refusal × List ℕ
+settled text out = cond (leb (length text) (length out)) (Ok (length text), text ++ drop (length text) out) (Err (TooFewBytes (length text)), out)
 
-unfoldable pub save : List ℕ → List ℕ → Saved × List ℕ
-save w out = elim (held w) [ none ↦ (Refused 18 0, out) | some E ↦ settled (saved E) out ]
+unfoldable pub save : List ℕ → List ℕ → Result ℕ Refusal × List ℕ
+save w out = elim (held w) [ none ↦ (Err NotABook, out) | some E ↦ settled (saved E) out ]

@@ -9,7 +9,7 @@ pub returns-then-out-need : goal.returns-then-out-need
 returns-then-out-need c = let a = c.args in save-short (saved (entries a.places.now)) a.out.now c.bytes_needed-need.ensures c.if-out-need.true
 
 pub put_lines-requires : goal.put_lines-requires
-put_lines-requires c = (c.count-n.ensures, c.requires, omega (arith, c.bytes_needed-need.ensures, c.if-out-need.false))
+put_lines-requires c = (c.requires, omega (arith, c.bytes_needed-need.ensures, c.if-out-need.false))
 
 pub returns : goal.returns
 returns c = let a = c.args in save_wrote (saved (entries a.places.now)) a.out.now c.bytes_needed-need.ensures c.if-out-need.false c.put_lines.ensures
