@@ -1,6 +1,6 @@
 -- Digits read one by one, and the parts of a line.
-use mathlib.Core.Path.{◌≡◌, sym, ◌∙◌}
-use mathlib.Core.Bool.{true, false, not}
+use mathlib.Core.Path.{◌≡◌, refl, sym, ◌∙◌}
+use mathlib.Core.Bool.{Bool, true, false, cond}
 use mathlib.Core.List.{List}
 use mathlib.Core.Option.{none, some}
 use Prim.Native.Nat.{ℕ, ◌+◌, ◌*◌, ◌/◌, ◌-◌, ◌^◌, ◌≤◌, ◌<◌}
@@ -8,14 +8,13 @@ use native.Mathlib.Nat.{pow-le-pow_right, one-le-pow, mul-lt-mul_of_pos_right}
 use native.Mathlib.Numerals.{add-one}
 use native.Mathlib.Omega.{arith}
 use lib.Pow.{pow-add}
-use lib.Dec.{lit≤}
+use lib.Dec.{lit≤, ltb}
+use Rattle.std.specs.Prelude.{Some, None}
 use lib.ListN.{length, take, drop, get_or, drop_of_length-le, length-drop}
 use lib.Seq.{drop-cons, length-take-le, take_all}
-use borrow.Author.Tests.{lt-ltb, le-ltb, le-leb, lt-leb, not-true, not-false}
+use borrow.Author.Tests.{lt-ltb, le-ltb, le-leb, lt-leb, ltb-true, ltb-false}
 use Rattle.book_entries.specs.declared.Entry.{Entry}
 use Rattle.book_entries.specs.Entries.{good}
-use Rattle.line_reader.specs.declared.Numeral.{Numeral}
-use Rattle.line_reader.specs.Reads.{Number}
 use Rattle.book_lines.specs.Lines.{value, onward, entry_of, checked, parts, entry}
 use Rattle.book_lines.proofs.Digits.{grows}
 use Rattle.book_lines.proofs.Parts.{opens}
@@ -106,10 +105,18 @@ module _ (l : List ℕ) (p : 16 ≤ length l) (q : length l ≤ 29) where
       unfolding parts
       whole g = opens l p q ∙ rw (e, rw eight at f, rw others at g, parts)
 
--- what a number was read as
-module _ {t : List ℕ} {r : Numeral} (n : Number t r) where
-  pub nothing : not r.good ≡ true → onward 0 t ≡ none
-  nothing f = n.is ∙ rw (not-true r.good f)
+-- what a character was read as
+module _ {v : ℕ} where
+  pub read : {d : ℕ} → Some d ≡ cond (ltb v 16) (Some v) None → (d ≡ v) × (d < 16)
+  read {d} e = go (ltb v 16) refl e
+    where
+      go : (b : Bool) → ltb v 16 ≡ b → Some d ≡ cond b (Some v) None → (d ≡ v) × (d < 16)
+      go true h f = let is : d ≡ v = cc in (is, omega (arith, is, ltb-true v 16 h))
+      go false h f = absurd (let z : ◌≡◌ {A = ℕ} 0 1 = cc in omega arith)
 
-  pub something : not r.good ≡ false → onward 0 t ≡ some r.value
-  something f = n.is ∙ rw (not-false r.good f)
+  pub unread : None ≡ cond (ltb v 16) (Some v) None → 16 ≤ v
+  unread e = go (ltb v 16) refl e
+    where
+      go : (b : Bool) → ltb v 16 ≡ b → None ≡ cond b (Some v) None → 16 ≤ v
+      go true h f = absurd (let z : ◌≡◌ {A = ℕ} 0 1 = cc in omega arith)
+      go false h f = ltb-false v 16 h

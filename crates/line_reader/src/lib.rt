@@ -1,54 +1,32 @@
 // A line of a saved book, read.
 #![tactic(auto)]
 
-ghost use Rattle.std.specs.Prelude.{◌≡◌, ◌^◌, ◌≤◌, ◌<◌, length};
+ghost use Rattle.std.specs.Prelude.{◌≡◌, cond, ltb, ◌^◌, ◌≤◌, ◌<◌, length, Some, None};
 ghost use Rattle.book_lines.specs.Lines.{value as Lines·value, entry_of, checked as Lines·checked, entry};
 ghost use Rattle.line_reader.specs.Reads.{Number, found};
 
-use book_entries::{Entry, good, unit};
+use book_entries::{Entry, unit};
 
-#[derive(Clone, Copy)]
-pub enum Line {
-    Good { entry: Entry },
-    Bad,
-}
-
-// Whether a text is digits alone, and their number; 0 where it is not.
-#[derive(Clone, Copy)]
-pub struct Numeral {
-    pub good: bool,
-    pub value: u64,
-}
-
-// The entry of a line, its line feed left out.
-pub fn read_line(line: &[u8]) -> Line
+// The entry of a good line, its line feed left out.
+pub fn read_line(line: &[u8]) -> Option<Entry>
     ensures { entry line.now ≡ found result }
 {
     let n = line.len();
     if n < 16 {
-        return Line::Bad;
+        return None;
     }
     if 29 < n {
-        return Line::Bad;
+        return None;
     }
     let size = (n - 12) / 2;
-    let name = number(&line[..size * 2]);
-    if !name.good {
-        return Line::Bad;
-    }
-    let frame = number(&line[size * 2..size * 2 + 8]);
-    if !frame.good {
-        return Line::Bad;
-    }
-    let bytes = number(&line[size * 2 + 8..]);
-    if !bytes.good {
-        return Line::Bad;
-    }
-    checked(size as u32, name.value, frame.value, bytes.value)
+    let name = number(&line[..size * 2])?;
+    let frame = number(&line[size * 2..size * 2 + 8])?;
+    let bytes = number(&line[size * 2 + 8..])?;
+    checked(size as u32, name, frame, bytes)
 }
 
 // The entry of a name of so many characters, a frame number and a byte length, if it is good.
-fn checked(size: u32, name: u64, number: u64, bytes: u64) -> Line
+fn checked(size: u32, name: u64, number: u64, bytes: u64) -> Option<Entry>
     requires { (2 ≤ size) × (size ≤ 8) × (name < 256 ^ size) × (number < 4294967296) × (bytes < 1048576) }
     ensures { Lines·checked (entry_of size name number bytes) ≡ found result }
 {
@@ -59,55 +37,32 @@ fn checked(size: u32, name: u64, number: u64, bytes: u64) -> Line
         number: number as u32,
         shape: size * 1048576 + bytes as u32,
     };
-    if !good(e) {
-        return Line::Bad;
+    if !e.is_good() {
+        return None;
     }
-    Line::Good { entry: e }
+    Some(e)
 }
 
 // The number of upper-case digits.
-fn number(text: &[u8]) -> Numeral
+fn number(text: &[u8]) -> Option<u64>
     requires { length text.now ≤ 16 }
     ensures { Number text.now result }
 {
     let mut x = 0;
-    let mut i = 0;
-    while i < text.len() {
-        let d = value(text[i]);
-        if 16 <= d {
-            return Numeral {
-                good: false,
-                value: 0,
-            };
-        }
+    for c in text {
+        let d = value(*c)?;
         x = x * 16 + d;
-        i += 1;
     }
-    Numeral {
-        good: true,
-        value: x,
-    }
+    Some(x)
 }
 
-// A digit's value; 16 for any other character.
-fn value(c: u8) -> u64
-    ensures { result ≡ Lines·value c }
+// A digit's value.
+fn value(c: u8) -> Option<u64>
+    ensures { result ≡ cond (ltb (Lines·value c) 16) (Some (Lines·value c)) None }
 {
-    if c < b'0' {
-        16
-    } else if c <= b'9' {
-        wide(c) - 48
-    } else if c < b'A' {
-        16
-    } else if c <= b'F' {
-        wide(c) - 55
-    } else {
-        16
+    match c {
+        b'0'..=b'9' => Some(u64::from(c) - 48),
+        b'A'..=b'F' => Some(u64::from(c) - 55),
+        _ => None,
     }
-}
-
-fn wide(c: u8) -> u64
-    ensures { result ≡ c }
-{
-    c as u64
 }

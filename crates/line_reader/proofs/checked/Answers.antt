@@ -1,7 +1,6 @@
 -- The name, moved up, has 64 bits.
 use mathlib.Core.Path.{sym, ◌∙◌}
-use mathlib.Core.Bool.{true, false}
-use Prim.Native.Nat.{ℕ, ◌+◌, ◌*◌, ◌/◌, ◌%◌, ◌^◌, ◌-◌, ◌<◌}
+use Prim.Native.Nat.{ℕ, ◌+◌, ◌*◌, ◌/◌, ◌%◌, ◌^◌, ◌<◌}
 use native.Mathlib.Omega.{arith}
 use Rattle.book_entries.specs.declared.Entry.{Entry}
 use Rattle.book_lines.specs.Lines.{entry_of}
@@ -22,14 +21,14 @@ overflow_mul-text c = omega (arith, fits (goal.at.overflow_mul-text c).After-uni
 pub overflow_cast-e : goal.overflow_cast-e
 overflow_cast-e c = omega (arith, fits (goal.at.overflow_cast-e c).After-unit)
 
-pub returns-then-not-good : goal.returns-then-not-good
-returns-then-not-good c =
+pub returns-then-not-is_good : goal.returns-then-not-is_good
+returns-then-not-is_good c =
     let a = c.args in
     let u = c.unit in
-    checked-bad (entry_of a.size a.name a.number a.bytes) (rw (← u.ensures) (sym c.good.ensures ∙ c.if-not-good.true))
+    checked-bad (entry_of a.size a.name a.number a.bytes) (rw (← u.ensures) (sym c.is_good.ensures ∙ c.if-not-is_good.true))
 
 pub returns : goal.returns
 returns c =
     let a = c.args in
     let u = c.unit in
-    rw (← u.ensures) (checked-good (made a.size a.name u.result a.number a.bytes) (sym c.good.ensures ∙ c.if-not-good.false))
+    rw (← u.ensures) (checked-good (made a.size a.name u.result a.number a.bytes) (sym c.is_good.ensures ∙ c.if-not-is_good.false))
