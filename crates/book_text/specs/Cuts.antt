@@ -1,18 +1,20 @@
 -- A text cut at its line feeds.
-use Rattle.std.specs.Prelude.{◌≡◌, cond, List, [], ℕ, ◌-◌, ◌≤◌, ◌<◌, length, take, drop, get_or}
-use Rattle.std.proofs.Math.Option.{none, some}
-use Rattle.book_lines.specs.Lines.{also, lines}
-use Rattle.book_text.specs.declared.Piece.{Piece}
+use Rattle.std.specs.Prelude.{cond, List, [], ◌∷◌, ◌++◌, ℕ, eqb, length}
+use Rattle.std.proofs.Math.Option.{Option, none, some}
+use Rattle.book_entries.specs.declared.Entry.{Entry}
+use Rattle.book_lines.specs.Lines.{entry, also}
+use Rattle.book_text.specs.declared.Lines.{Lines}
 
--- r is the first line feed from s on, or the end of the text
-pub record Feed (text : List ℕ) (s r : ℕ) : Type 0 where
-  pub onward : s ≤ r
-  pub within : r ≤ length text
-  pub is : lines [] (drop s text) ≡ lines (take (r - s) (drop s text)) (drop r text)
-  pub feed : r < length text → get_or text r 0 ≡ 10
+-- the lines of a text whose first line has begun with l, each as its entry; every line ends with a line feed
+unfoldable pub cut : List ℕ → List ℕ → List (Option Entry)
+cut l [] = cond (eqb (length l) 0) [] (none ∷ [])
+cut l (c ∷ t) = cond (eqb c 10) (entry l ∷ cut [] t) (cut (l ++ c ∷ []) t)
 
--- the line that begins at s: its entry, and where the next line begins
-pub record Cut (text : List ℕ) (s : ℕ) (r : Piece) : Type 0 where
-  pub is : lines [] (drop s text) ≡ cond r.good (also (some r.entry) (lines [] (drop r.next text))) none
-  pub onward : s < r.next
-  pub within : r.next ≤ length text
+-- the entries, if all lines are good
+unfoldable pub collected : List (Option Entry) → Option (List Entry)
+collected [] = some []
+collected (o ∷ L) = also o (collected L)
+
+-- what an iterator over the lines has left
+abbrev pub left : Lines → List (Option Entry)
+left s = cut [] s.text.now

@@ -1,64 +1,53 @@
 // A saved book, line by line.
 #![tactic(auto)]
 
-ghost use Rattle.std.specs.Prelude.{◌≡◌, ◌≤◌, ◌<◌, length};
-ghost use Rattle.book_text.specs.Cuts.{Feed, Cut};
+ghost use Rattle.std.specs.Prelude.{◌≡◌, ◌==◌, ◌≤◌, [], length, position};
+ghost use Rattle.std.specs.Iterator.{YieldsFirstBy, item_count};
+ghost use Rattle.line_reader.specs.Reads.{found};
+ghost use Rattle.book_text.specs.Cuts.{cut, left};
 
 use book_entries::Entry;
-use line_reader::{Line, read_line};
+use line_reader::read_line;
 
-// Whether a line is good, its entry, and where the next line begins.
+// The lines of a saved book, each as its entry; None for one that is not good.
 #[derive(Clone, Copy)]
-pub struct Piece {
-    pub good: bool,
-    pub entry: Entry,
-    pub next: usize,
+pub struct Lines<'a> {
+    text: &'a [u8],
 }
 
-// The line that begins at `start`.
-pub fn line_at(text: &[u8], start: usize) -> Piece
-    requires { start < length text.now }
-    ensures { Cut text.now start result }
-{
-    let nothing = Entry {
-        high: 0,
-        low: 0,
-        number: 0,
-        shape: 0,
-    };
-    let end = find_feed(text, start);
-    if text.len() <= end {
-        return Piece {
-            good: false,
-            entry: nothing,
-            next: end,
-        };
-    }
-    match read_line(&text[start..end]) {
-        Line::Bad => Piece {
-            good: false,
-            entry: nothing,
-            next: end + 1,
-        },
-        Line::Good { entry } => Piece {
-            good: true,
-            entry: entry,
-            next: end + 1,
-        },
+impl<'a> Lines<'a> {
+    pub fn of(text: &'a [u8]) -> Lines<'a>
+        ensures held { left result ≡ cut [] text.now }
+        ensures few { length (left result) ≤ length text.now }
+    {
+        Lines { text }
     }
 }
 
-// The first line feed from `start` on, or the end of the text.
-fn find_feed(text: &[u8], start: usize) -> usize
-    requires { start ≤ length text.now }
-    ensures { Feed text.now start result }
-{
-    let mut i = start;
-    while i < text.len() {
-        if text[i] == b'\n' {
-            return i;
+impl<'a> Iterator for Lines<'a> {
+    type Item = Option<Entry>;
+
+    ghost next_gives = { YieldsFirstBy found left };
+
+    ghost remaining = { item_count left };
+
+    fn next(&mut self) -> Option<Option<Entry>> {
+        if self.text.is_empty() {
+            return None;
         }
-        i += 1;
+        let Some(end) = find_feed(self.text) else {
+            self.text = &self.text[..0];
+            return Some(None);
+        };
+        let entry = read_line(&self.text[..end]);
+        self.text = &self.text[end + 1..];
+        Some(entry)
     }
-    i
+}
+
+// The first line feed.
+fn find_feed(text: &[u8]) -> Option<usize>
+    ensures { result ≡ position (λ c. c == 10) text.now }
+{
+    text.iter().position(|c| *c == b'\n')
 }
