@@ -15,7 +15,8 @@ use Rattle.book_changes.proofs.Orderly.{insert-length}
 use Rattle.counted_books.specs.Holding.{Fits}
 use Rattle.name_book.proofs.FitLaws.{either}
 use Rattle.book_lines.specs.Lines.{lines}
-use Rattle.loaded_books.specs.declared.Loaded.{Loaded}
+use Rattle.std.specs.Prelude.{Result}
+use Rattle.loaded_books.specs.declared.Refusal.{Refusal}
 use Rattle.loaded_books.specs.Loads.{distinct, gathered, replaced}
 use Rattle.loaded_books.proofs.Ready.{Ready, ready_first, ready_next}
 
@@ -37,7 +38,7 @@ loaded places E f t = go (lines [] t) refl
     go : (o : Option (List Entry)) → lines [] t ≡ o → Fits places (replaced places o E).1
     go none h = f
     go (some L) h =
-        let P : Loaded × List Entry → Type 0 = λ o. Fits places o.1 in
+        let P : Result ℕ Refusal × List Entry → Type 0 = λ o. Fits places o.1 in
         either P (distinct L)
         (λ d. either P (leb (length L) places)
         (λ r. record { orderly = gathered-orderly [] L (ready_first t h d); few = omega (arith, gathered-length [] L, leb-true (length L) places r) })

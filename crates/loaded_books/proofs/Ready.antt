@@ -17,10 +17,9 @@ use Rattle.book_changes.specs.Changes.{insert}
 use Rattle.book_changes.proofs.Orderly.{alike, eqb_comm, alike_comm, holds-insert, insert-orderly, insert-length}
 use Rattle.book_changes.proofs.LaidLaws.{laid-insert}
 use Rattle.book_lines.specs.Lines.{onward, entry_of, checked, parts, entry, also, lines}
-use Rattle.book_text.specs.declared.Piece.{Piece}
-use Rattle.book_text.specs.Cuts.{Cut}
+use Rattle.book_text.specs.Cuts.{collected}
 use Rattle.loaded_books.specs.Loads.{meets, distinct, gathered, Fit}
-use Rattle.loaded_books.proofs.LoadLaws.{some_is, none-some, split, at-end}
+use Rattle.loaded_books.proofs.LoadLaws.{some_is, none-some, split, bad_first, at-end}
 
 -- every entry that a line gives is good
 abbrev pub bad : Entry → Bool
@@ -115,56 +114,63 @@ pub ready_first : (t : List ℕ) {L : List Entry} → lines [] t ≡ some L → 
 unfolding orderly
 ready_first t {L} h d = record { orderly = refl; apart = d; good = lines-good t [] h; free = no_one L }
 
--- all of a good saved book, and so many of them put into the words v, up to s
-pub record Putting (t w v : List ℕ) (n s : ℕ) : Type 0 where
+-- all of a good saved book, those of them that are in the words v, and the lines O that are left
+pub record Putting (t w v : List ℕ) (O : List (Option Entry)) : Type 0 where
   pub all : List Entry
   pub there : List Entry
   pub left : List Entry
   pub is : lines [] t ≡ some all
   pub shows : v ≡ laid (length w) there
-  pub count : n ≡ length there
-  pub rest : lines [] (drop s t) ≡ some left
+  pub rest : collected O ≡ some left
   pub same : gathered [] all ≡ gathered there left
   pub ready : Ready there left
   pub few : length there + length left ≤ length w / 4
 
-module _ {t w v : List ℕ} {n s : ℕ} (p : Putting t w v n s) where
+module _ {t w v : List ℕ} {O : List (Option Entry)} (p : Putting t w v O) where
   pub lists_there : listed v ≡ some p.there
   lists_there = rw p.shows (listed-laid (length w) p.there p.ready.orderly (omega (arith, p.few)))
 
   pub as_long : length v ≡ length w
   as_long = ap length p.shows ∙ laid-length (length w) p.there (omega (arith, p.few))
 
-  pub counted : n ≡ length (entries v)
-  counted = p.count ∙ sym (ap length (listing lists_there).is)
+  pub counted : length (entries v) ≡ length p.there
+  counted = ap length (listing lists_there).is
 
-  module _ {r : Piece} (c : Cut t s r) where
+  module _ {L : List (Option Entry)} {e : Entry} (is : O ≡ some e ∷ L) where
     pub place-left : length p.there + 1 ≤ length w / 4
-    place-left = let q = split c p.rest in omega (arith, p.few, ap length q.is)
+    place-left = let q = split is p.rest in omega (arith, p.few, ap length q.is)
 
-    pub put_next : {v' : List ℕ} → v' ≡ picture (insert r.entry (entries v)) ++ drop ((n + 1) * 4) v → Putting t w v' (n + 1) r.next
+    pub put_next : {v' : List ℕ} → v' ≡ picture (insert e (entries v)) ++ drop ((length (entries v) + 1) * 4) v → Putting t w v' L
     unfolding gathered
     put_next x =
-        let q = split c p.rest in
-        let e = r.entry in
-        let y = rw p.count at x in
+        let q = split is p.rest in
+        let y = rw counted at x in
         record {
           all = p.all;
           there = insert e p.there;
           left = q.others;
           is = p.is;
           shows = rw (← as_long) (laid-insert (listing lists_there) e y);
-          count = omega (arith, p.count, insert-length e p.there);
           rest = q.rest;
           same = p.same ∙ ap (λ (N : List Entry). gathered p.there N) q.is;
           ready = ready_next p.there e q.others (rw q.is at p.ready);
           few = omega (arith, p.few, insert-length e p.there, ap length q.is);
         }
 
+  -- all are there
+  pub put_last : {L : List Entry} → O ≡ [] → lines [] t ≡ some L → v ≡ laid (length w) (gathered [] L)
+  unfolding gathered
+  put_last q h =
+      let e = some_is (sym h ∙ p.is) in
+      p.shows ∙ ap (λ (E : List Entry). laid (length w) E) (sym (rw (at-end q p.rest) at p.same) ∙ ap (λ (E : List Entry). gathered [] E) (sym e))
+
+  pub no-bad : {A : Type 0} {L : List (Option Entry)} → O ≡ none ∷ L → A
+  no-bad is = absurd (none-some (sym (bad_first is) ∙ p.rest))
+
 -- an emptied book, and a saved one that fits
-pub put_first : {t w : List ℕ} → w ≡ replicate (length w) 0 → Fit t w → Putting t w w 0 0
+pub put_first : {t w : List ℕ} {O : List (Option Entry)} → lines [] t ≡ collected O → w ≡ replicate (length w) 0 → Fit t w → Putting t w w O
 unfolding laid picture
-put_first {t} {w} z f =
+put_first {t} {w} i z f =
     let e : length w - 0 * 4 ≡ length w = omega arith in
     record {
       all = f.entries;
@@ -172,16 +178,8 @@ put_first {t} {w} z f =
       left = f.entries;
       is = f.is;
       shows = rw e z;
-      count = refl;
-      rest = f.is;
+      rest = sym i ∙ f.is;
       same = refl;
       ready = ready_first t f.is f.apart;
       few = omega (arith, f.few);
     }
-
--- all are there
-pub put_last : {t w v : List ℕ} {n s : ℕ} {L : List Entry} → Putting t w v n s → length t ≤ s → lines [] t ≡ some L → v ≡ laid (length w) (gathered [] L)
-unfolding gathered
-put_last {t} {w} {s = s} p q h =
-    let e = some_is (sym h ∙ p.is) in
-    p.shows ∙ ap (λ (E : List Entry). laid (length w) E) (sym (rw (at-end t s q p.rest) at p.same) ∙ ap (λ (E : List Entry). gathered [] E) (sym e))

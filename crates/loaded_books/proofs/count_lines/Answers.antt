@@ -1,27 +1,20 @@
-use mathlib.Core.Path.{refl}
-use mathlib.Core.Bool.{true, false}
+use mathlib.Core.Path.{refl, ◌∙◌}
 use mathlib.Core.List.{[]}
-use Prim.Native.Nat.{◌-◌}
 use native.Mathlib.Omega.{arith}
-use Rattle.book_lines.specs.Lines.{lines}
-use borrow.Author.Tests.{not-true, not-false}
-use Rattle.loaded_books.proofs.LoadLaws.{counting, behind-nothing, bad-line, all_read_lem}
+use Rattle.book_text.specs.Cuts.{collected, left}
+use Rattle.loaded_books.proofs.LoadLaws.{at_first, with_entry, without, counting, behind-nothing, bad-line, all_read_lem}
 use Rattle.loaded_books.proofs.count_lines.Goals as goal
 
-pub loop-start-init : goal.loop-start-init
-loop-start-init c = record { entries = []; is = behind-nothing (lines [] c.args.saved.now); many = refl; few = omega arith; within = omega arith }
+pub loop-line-init : goal.loop-line-init
+loop-line-init c =
+    let i = c.into_iter-line-iterator.ensures.into_iter_gives in
+    rw i record { entries = []; is = at_first c.args.saved.now c.of-line-items.ensures.held ∙ behind-nothing (collected (left c.of-line-items.result)); many = refl; few = omega (arith, c.of-line-items.ensures.few) }
 
-pub returns-then-not-line : goal.returns-then-not-line
-returns-then-not-line c = let z = c.loop-start.invariant in record { entries = []; is = bad-line z.entries c.line_at-line.ensures z.is (not-true c.line_at-line.result.good c.if-not-line.true); count = refl }
+pub returns-in_err-line : goal.returns-in_err-line
+returns-in_err-line c = rw c.from_residual.ensures (bad-line c.loop-line.invariant (without c.in-Some.ensures.steps c.in_err-line.was))
 
-pub loop-start-preserved : goal.loop-start-preserved
-loop-start-preserved c = counting c.loop-start.invariant c.line_at-line.ensures (not-false c.line_at-line.result.good c.if-not-line.false)
-
-pub loop-start-smaller : goal.loop-start-smaller
-loop-start-smaller c = omega (arith, c.line_at-line.ensures.onward, c.line_at-line.ensures.within)
-
-pub overflow_add-count : goal.overflow_add-count
-overflow_add-count c = omega (arith, c.loop-start.invariant.few, c.loop-start-test.true)
+pub loop-line-preserved : goal.loop-line-preserved
+loop-line-preserved c = counting c.loop-line.invariant (with_entry c.in-Some.ensures.steps c.in_ok-line.was)
 
 pub returns : goal.returns
-returns c = let z = c.loop-start.invariant in record { entries = z.entries; is = all_read_lem c.args.saved.now c.loop-start.start z.entries c.loop-start-test.false z.is; count = z.many }
+returns c = let z = c.loop-line.invariant in (z.entries, all_read_lem z c.in-None.ensures.steps.0, z.many)

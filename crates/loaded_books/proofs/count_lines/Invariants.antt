@@ -1,11 +1,7 @@
--- The invariant: so many lines have been read. The measure is what is left of the text.
-use Prim.Native.Nat.{◌-◌}
-use lib.ListN.{length}
+-- So many lines have been read.
+use Rattle.book_text.specs.Cuts.{left}
 use Rattle.loaded_books.proofs.LoadLaws.{Counting}
 use Rattle.loaded_books.proofs.count_lines.Given as goal
 
-abbrev pub invariant-loop-start : goal.invariant-loop-start
-invariant-loop-start l = Counting l.saved l.count l.start
-
-abbrev pub decreases-loop-start : goal.decreases-loop-start
-decreases-loop-start l = length l.saved - l.start
+abbrev pub invariant-loop-line : goal.invariant-loop-line
+invariant-loop-line l = Counting l.saved l.count (left l.line-iterator)

@@ -6,7 +6,8 @@ use Rattle.counted_books.specs.Counted.{room}
 use Rattle.counted_books.proofs.Held.{holding}
 use Rattle.name_book.proofs.CallLaws.{unheld, is_held, lent-long, lent-listed, back_long, opened-none, opened-changed}
 use Rattle.book_lines.specs.Lines.{lines}
-use Rattle.loaded_books.specs.declared.Loaded.TheVariants.{Refused}
+use Rattle.std.specs.Prelude.{Err}
+use Rattle.loaded_books.specs.declared.Refusal.TheVariants.{NotABook}
 use Rattle.loaded_books.specs.Loads.{replaced, load}
 use Rattle.loaded_books.proofs.FitLaws.{loaded}
 use Rattle.loaded_books.proofs.load.Goals as goal
@@ -15,14 +16,14 @@ pub returns-then-not-sound_book : goal.returns-then-not-sound_book
 unfolding load
 returns-then-not-sound_book c =
     let a = c.args in
-    opened-none (Refused 18) a.book.now _ (unheld a.book.now c.sound_book.ensures (c.if-not-sound_book.true))
+    opened-none (Err NotABook) a.book.now _ (unheld a.book.now c.sound_book.ensures (c.if-not-sound_book.true))
 
 pub returns : goal.returns
 unfolding load
 returns c =
     let t = c.args.saved.now in
     let E = entries (drop 2 c.args.book.now) in
-    opened-changed (Refused 18) c.args.book.now (λ n. replaced n (lines [] t)) (is_held c.args.book.now c.sound_book.ensures c.if-not-sound_book.false) (loaded (room c.args.book.now) E (holding c.args.book.now (is_held c.args.book.now c.sound_book.ensures c.if-not-sound_book.false)).fits t) c.load_at-loaded.ensures c.recount.ensures
+    opened-changed (Err NotABook) c.args.book.now (λ n. replaced n (lines [] t)) (is_held c.args.book.now c.sound_book.ensures c.if-not-sound_book.false) (loaded (room c.args.book.now) E (holding c.args.book.now (is_held c.args.book.now c.sound_book.ensures c.if-not-sound_book.false)).fits t) c.load_at-loaded.ensures c.recount.ensures
 
 pub slice_bounds-load_at-count : goal.slice_bounds-load_at-count
 slice_bounds-load_at-count c = lent-long c.args.book.now (is_held c.args.book.now c.sound_book.ensures c.if-not-sound_book.false)

@@ -1,18 +1,13 @@
--- The invariant: the entries that are left meet e if all do. The measure is what is left of the text.
+-- The entries that are left meet e if all do.
 use mathlib.Core.Path.{◌≡◌}
-use mathlib.Core.List.{List, []}
+use mathlib.Core.List.{List}
 use mathlib.Core.Option.{some}
-use Prim.Native.Nat.{◌-◌, ◌≤◌}
-use lib.ListN.{length, drop}
 use Rattle.book_entries.specs.declared.Entry.{Entry}
 use Rattle.book_entries.specs.Book.{holds}
-use Rattle.book_lines.specs.Lines.{lines}
+use Rattle.book_text.specs.Cuts.{collected, left}
 use Rattle.loaded_books.specs.Loads.{meets}
 use Rattle.loaded_books.proofs.LoadLaws.{Left}
 use Rattle.loaded_books.proofs.meets_later.Given as goal
 
-abbrev pub invariant-loop-start : goal.invariant-loop-start
-invariant-loop-start l = (l.start ≤ length l.saved) × ((M : List Entry) → lines [] (drop l.first l.saved) ≡ some M → Left (holds (meets l.e)) l.saved l.start M)
-
-abbrev pub decreases-loop-start : goal.decreases-loop-start
-decreases-loop-start l = length l.saved - l.start
+abbrev pub invariant-loop-line : goal.invariant-loop-line
+invariant-loop-line l = (M : List Entry) → collected (left l.fn.later) ≡ some M → Left (holds (meets l.e)) (left l.line-iterator) M

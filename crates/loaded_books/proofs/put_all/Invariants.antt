@@ -1,11 +1,7 @@
--- The measure is what is left of the text.
-use Prim.Native.Nat.{◌-◌, ◌≤◌}
-use lib.ListN.{length}
+-- The entries of the lines so far are there.
+use Rattle.book_text.specs.Cuts.{left}
 use Rattle.loaded_books.proofs.Ready.{Putting}
 use Rattle.loaded_books.proofs.put_all.Given as goal
 
-abbrev pub invariant-loop-start : goal.invariant-loop-start
-invariant-loop-start l = (l.start ≤ length l.saved) × Putting l.saved l.initial.places l.places l.n l.start
-
-abbrev pub decreases-loop-start : goal.decreases-loop-start
-decreases-loop-start l = length l.saved - l.start
+abbrev pub invariant-loop-line : goal.invariant-loop-line
+invariant-loop-line l = Putting l.saved l.initial.places l.places (left l.line-iterator)
