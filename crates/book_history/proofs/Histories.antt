@@ -4,7 +4,7 @@ use mathlib.Core.List.{List, [], ◌∷◌}
 use Prim.Native.Nat.{ℕ, ◌/◌, ◌-◌, ◌≤◌}
 use lib.ListN.{length}
 use Rattle.book_entries.specs.declared.Entry.{Entry}
-use Rattle.counted_books.specs.declared.Free.TheVariants.{Places}
+use Rattle.std.specs.Prelude.{Ok}
 use Rattle.counted_books.specs.Counted.{emptied, free}
 use Rattle.counted_books.proofs.Held.{holding}
 use Rattle.book_history.specs.History.{Call, after, run, history}
@@ -23,7 +23,7 @@ module _ (n : ℕ) (long : 2 ≤ n) (cs : List Call) where
   after_any = kept-all (keeps-shown n (emptied n) [] long (no_entries ((n - 2) / 4)) (emptied-shown n long)) cs
 
   -- "Keep the number in the book itself, correct after every add, withdrawal, load and refusal": the places less the names held
-  pub number-kept : free (run (emptied n) cs) ≡ Places ((n - 2) / 4 - length (history ((n - 2) / 4) [] cs))
+  pub number-kept : free (run (emptied n) cs) ≡ Ok ((n - 2) / 4 - length (history ((n - 2) / 4) [] cs))
   number-kept =
       let k = after_any in
       let i = holding (run (emptied n) cs) k.holds in

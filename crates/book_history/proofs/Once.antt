@@ -1,5 +1,5 @@
 -- Each name and each number is held once, and look-ups find exactly the entries held.
-use mathlib.Core.Path.{◌≡◌, refl, sym, ◌∙◌}
+use mathlib.Core.Path.{◌≡◌, refl, sym, ap, ◌∙◌}
 use mathlib.Core.Bool.{Bool, true, false, cond, ◌||◌, true≢false, false≢true}
 use mathlib.Core.List.{List, [], ◌∷◌}
 use Prim.Native.Nat.{ℕ, suc, ◌<◌}
@@ -11,8 +11,9 @@ use Rattle.book_entries.specs.Entries.{text, size, bytes}
 use Rattle.book_entries.specs.Book.{place, holds, named, before, orderly}
 use Rattle.book_changes.specs.Changes.{vacant}
 use Rattle.book_changes.proofs.Orderly.{alike, alike_comm, first-fair, others}
-use Rattle.name_book.specs.Calls.{first, find}
-use Rattle.name_book.specs.declared.Found as found
+use Rattle.name_book.specs.Calls.{first, frame_of, find}
+use Rattle.std.specs.Prelude.{Option, Some, None}
+use Rattle.name_book.specs.declared.Frame.{Frame}
 use Rattle.book_history.specs.Keeps.{In, here, there}
 
 pub in_holds : (fits : Entry → Bool) {e : Entry} (E : List Entry) → In e E → fits e ≡ true → holds fits E ≡ true
@@ -60,7 +61,7 @@ first_in fits (e ∷ E) h = go (fits e) refl h (first_in fits E)
     go false g k i = (there (i k).0, (i k).1)
 
 -- "lookups find exactly those": an entry held is found by its name
-pub finds : (e : Entry) (E : List Entry) → orderly E ≡ true → In e E → find (text e) (size e) E ≡ found.TheVariants.At e.number (bytes e)
+pub finds : (e : Entry) (E : List Entry) → orderly E ≡ true → In e E → find (text e) (size e) E ≡ Some (frame_of e)
 unfolding find
 finds e E o m =
     let h = in_holds (alike e) E m (rw (eq-eqb (text e) (text e) refl, eq-eqb (size e) (size e) refl)) in
@@ -69,13 +70,16 @@ finds e E o m =
     rw (h, s)
 
 -- and what is found is held, with this name
-pub found-held : (t s : ℕ) (E : List Entry) {k b : ℕ} → find t s E ≡ found.TheVariants.At k b → (e : Entry) × In e E × (named t s e ≡ true) × (k ≡ e.number) × (b ≡ bytes e)
+pub found-held : (t s : ℕ) (E : List Entry) {k b : ℕ} → find t s E ≡ Some (record { number = k; bytes = b }) → (e : Entry) × In e E × (named t s e ≡ true) × (k ≡ e.number) × (b ≡ bytes e)
 unfolding find
 found-held t s E {k} {b} h = go (holds (named t s) E) refl h
   where
     F : Entry
     F = first (named t s) E
 
-    go : (v : Bool) → holds (named t s) E ≡ v → cond v (found.TheVariants.At F.number (bytes F)) found.TheVariants.Nowhere ≡ found.TheVariants.At k b → (e : Entry) × In e E × (named t s e ≡ true) × (k ≡ e.number) × (b ≡ bytes e)
-    go true g j = let i = first_in (named t s) E g in (F, i.0, i.1, cc, cc)
+    go : (v : Bool) → holds (named t s) E ≡ v → cond {A = Option Frame} v (Some (frame_of F)) None ≡ Some (record { number = k; bytes = b }) → (e : Entry) × In e E × (named t s e ≡ true) × (k ≡ e.number) × (b ≡ bytes e)
+    go true g j =
+        let i = first_in (named t s) E g in
+        let f : ◌≡◌ {A = Frame} (record { number = k; bytes = b }) (frame_of F) = cc in
+        (F, i.0, i.1, ap (λ (x : Frame). x.number) f, ap (λ (x : Frame). x.bytes) f)
     go false g j = absurd (let z : ◌≡◌ {A = ℕ} 0 1 = cc in omega arith)

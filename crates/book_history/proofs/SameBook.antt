@@ -17,9 +17,8 @@ use Rattle.counted_books.proofs.Held.{holding}
 use Rattle.name_book.specs.Calls.{opened}
 use Rattle.book_lines.specs.Lines.{saved, InWords}
 use Rattle.book_lines.proofs.Returned.{saved_back}
-use Rattle.saved_books.specs.declared.Saved.TheVariants.{Wrote}
+use Rattle.std.specs.Prelude.{Ok}
 use Rattle.saved_books.specs.Saves.{settled, save}
-use Rattle.loaded_books.specs.declared.Loaded.TheVariants.{Done}
 use Rattle.loaded_books.specs.Loads.{distinct, gathered, replaced, load}
 
 -- no entry behind g has a number up to g's
@@ -76,18 +75,18 @@ gathered-same (e ∷ E) o = rising [] e E tt o
 
 -- the text of E, loaded into a sound book with places for it
 module _ (E : List Entry) (o : orderly E ≡ true) (k : InWords E) where
-  pub saved_loads : (v : List ℕ) {F : List Entry} → held v ≡ some F → length E ≤ room v → load v (saved E) ≡ (Done (length E), shown (length v) E)
+  pub saved_loads : (v : List ℕ) {F : List Entry} → held v ≡ some F → length E ≤ room v → load v (saved E) ≡ (Ok (length E), shown (length v) E)
   unfolding load opened replaced
   saved_loads v h r = rw (h, opened) (rw (saved_back E o k, orderly-distinct E o, le-leb (length E) (room v) r, gathered-same E o))
 
 -- a book that is saved, and the bytes that were written
 module _ (w out : List ℕ) {E : List Entry} (h : held w ≡ some E) (room_for : length (saved E) ≤ length out) where
-  pub saved-text : save w out ≡ (Wrote (length (saved E)), saved E ++ drop (length (saved E)) out)
+  pub saved-text : save w out ≡ (Ok (length (saved E)), saved E ++ drop (length (saved E)) out)
   unfolding save settled
   saved-text = rw (h, save) (rw (le-leb (length (saved E)) (length out) room_for))
 
   -- "saved .. loaded .. in place of what was held": as many words hold the same words
-  pub same_book : InWords E → (v : List ℕ) {F : List Entry} → held v ≡ some F → length v ≡ length w → load v (take (length (saved E)) (save w out).1) ≡ (Done (length E), w)
+  pub same_book : InWords E → (v : List ℕ) {F : List Entry} → held v ≡ some F → length v ≡ length w → load v (take (length (saved E)) (save w out).1) ≡ (Ok (length E), w)
   same_book k v g l =
       let i = holding w h in
       let t : take (length (saved E)) (save w out).1 ≡ saved E = rw saved-text (take_at (saved E) (drop (length (saved E)) out) (length (saved E)) refl) in

@@ -10,7 +10,8 @@ use Rattle.book_entries.specs.Book.{picture, laid}
 use Rattle.counted_books.specs.Counted.{shown, held, emptied}
 use Rattle.counted_books.proofs.Held.{holding, shown-length, held-shown}
 use Rattle.book_lines.specs.Lines.{saved, InWords}
-use Rattle.loaded_books.specs.declared.Loaded.{Loaded}
+use Rattle.std.specs.Prelude.{Result}
+use Rattle.loaded_books.specs.declared.Refusal.{Refusal}
 use Rattle.loaded_books.specs.Loads.{load}
 use Rattle.book_history.specs.History.{emptying, loading, after, run}
 use Rattle.book_history.specs.Left.{Words, Left}
@@ -40,7 +41,7 @@ module _ (w : List ℕ) {E : List Entry} (narrow : Words w) (h : held w ≡ some
       let f = no_entries ((n - 2) / 4) in
       let l : length (emptied n) ≡ n = rw (emptied-shown n i.long) (shown-length n [] i.long f) in
       let s : held (emptied n) ≡ some [] = rw (emptied-shown n i.long) (held-shown n [] i.long f) in
-      ap (λ (o : Loaded × List ℕ). o.1) (saved_loads E i.fits.orderly numbers (emptied n) s (rw l i.fits.few)) ∙ rw l (sym i.is)
+      ap (λ (o : Result ℕ Refusal × List ℕ). o.1) (saved_loads E i.fits.orderly numbers (emptied n) s (rw l i.fits.few)) ∙ rw l (sym i.is)
 
   -- its own saved text, loaded into an emptied slice, leaves it
   pub sound-left : Left w

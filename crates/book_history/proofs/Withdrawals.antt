@@ -17,9 +17,11 @@ use Rattle.book_changes.specs.Changes.{without}
 use Rattle.book_changes.proofs.Orderly.{alike, others, first-fair, holds-without, without-length}
 use Rattle.counted_books.specs.Counted.{room, held}
 use Rattle.counted_books.proofs.Held.{holding}
-use Rattle.name_book.specs.declared.Added as added
-use Rattle.name_book.specs.declared.Withdrawn as withdrawn
-use Rattle.name_book.specs.declared.Found as found
+use Rattle.std.specs.Prelude.{None, Result, Ok, Err}
+use Rattle.name_book.specs.declared.Added.{Added}
+use Rattle.name_book.specs.declared.Added.TheVariants.{New, Repeated}
+use Rattle.name_book.specs.declared.Refusal.{Refusal}
+use Rattle.name_book.specs.declared.Refusal.TheVariants.{NotABook, BookFull}
 use Rattle.name_book.specs.Calls.{first, opened, offer, add, take_out, withdraw, find, look_up}
 use Rattle.name_book.proofs.FitLaws.{either}
 use Rattle.book_history.specs.History.{withdrawing, after, says}
@@ -69,37 +71,37 @@ none_left e f E o m a = go (holds (alike e) (without f.number E)) refl
 
 module _ (places : ℕ) (e : Entry) (E : List Entry) where
   -- a repeated frame tells the number of the one that holds its name
-  repeated : {k : ℕ} → (offer places e E).0 ≡ added.TheVariants.Repeated k → (holds (alike e) E ≡ true) × ((first (alike e) E).number ≡ k)
+  repeated : {k : ℕ} → (offer places e E).0 ≡ Ok (Repeated k) → (holds (alike e) E ≡ true) × ((first (alike e) E).number ≡ k)
   unfolding offer
   repeated {k} =
-      let P : added.Added × List Entry → Type 0 = λ o. o.0 ≡ added.TheVariants.Repeated k → (holds (alike e) E ≡ true) × ((first (alike e) E).number ≡ k) in
+      let P : Result Added Refusal × List Entry → Type 0 = λ o. o.0 ≡ Ok (Repeated k) → (holds (alike e) E ≡ true) × ((first (alike e) E).number ≡ k) in
       either P (holds (numbered e.number) E) (λ t q. absurd (let z : ◌≡◌ {A = ℕ} 0 1 = cc in omega arith)) (λ t.
       either P (not (good e)) (λ g q. absurd (let z : ◌≡◌ {A = ℕ} 0 1 = cc in omega arith)) (λ g.
       either P (holds (alike e) E) (λ n q. (n, cc)) (λ n.
       either P (ltb (length E) places) (λ r q. absurd (let z : ◌≡◌ {A = ℕ} 0 1 = cc in omega arith)) (λ r q. absurd (let z : ◌≡◌ {A = ℕ} 0 1 = cc in omega arith)))))
 
   -- refused for want of room, it has a name and a number that are not held
-  crowded : (offer places e E).0 ≡ added.TheVariants.Refused 10 → (holds (numbered e.number) E ≡ false) × (not (good e) ≡ false) × (holds (alike e) E ≡ false)
+  crowded : (offer places e E).0 ≡ Err BookFull → (holds (numbered e.number) E ≡ false) × (not (good e) ≡ false) × (holds (alike e) E ≡ false)
   unfolding offer
   crowded =
-      let P : added.Added × List Entry → Type 0 = λ o. o.0 ≡ added.TheVariants.Refused 10 → (holds (numbered e.number) E ≡ false) × (not (good e) ≡ false) × (holds (alike e) E ≡ false) in
-      either P (holds (numbered e.number) E) (λ t q. absurd (let z : ◌≡◌ {A = ℕ} 12 10 = cc in omega arith)) (λ t.
+      let P : Result Added Refusal × List Entry → Type 0 = λ o. o.0 ≡ Err BookFull → (holds (numbered e.number) E ≡ false) × (not (good e) ≡ false) × (holds (alike e) E ≡ false) in
+      either P (holds (numbered e.number) E) (λ t q. absurd (let z : ◌≡◌ {A = ℕ} 0 1 = cc in omega arith)) (λ t.
       either P (not (good e)) (λ g q. absurd (let z : ◌≡◌ {A = ℕ} 0 1 = cc in omega arith)) (λ g.
       either P (holds (alike e) E) (λ n q. absurd (let z : ◌≡◌ {A = ℕ} 0 1 = cc in omega arith)) (λ n.
       either P (ltb (length E) places) (λ r q. absurd (let z : ◌≡◌ {A = ℕ} 0 1 = cc in omega arith)) (λ r q. (t, g, n)))))
 
   -- with one frame less it is new
-  taken_in : (k : ℕ) → (offer places e E).0 ≡ added.TheVariants.Refused 10 → holds (numbered k) E ≡ true → length E ≤ places → (offer places e (without k E)).0 ≡ added.TheVariants.New
+  taken_in : (k : ℕ) → (offer places e E).0 ≡ Err BookFull → holds (numbered k) E ≡ true → length E ≤ places → (offer places e (without k E)).0 ≡ Ok New
   unfolding offer
   taken_in k h g f =
       let c = crowded h in
       let l = without-length k E (ltb-true (place (numbered k) E) (length E) (sym (holds-place (numbered k) E) ∙ g)) in
       rw (holds-without (numbered e.number) k E c.0, c.1, holds-without (alike e) k E c.2, lt-ltb (length (without k E)) places (omega arith))
 
-there_was : (k : ℕ) (E : List Entry) → (take_out k E).0 ≡ withdrawn.TheVariants.Gone → holds (numbered k) E ≡ true
+there_was : (k : ℕ) (E : List Entry) → (take_out k E).0 ≡ Ok tt → holds (numbered k) E ≡ true
 unfolding take_out
 there_was k E =
-    let P : withdrawn.Withdrawn × List Entry → Type 0 = λ o. o.0 ≡ withdrawn.TheVariants.Gone → holds (numbered k) E ≡ true in
+    let P : Result (Unit {0}) Refusal × List Entry → Type 0 = λ o. o.0 ≡ Ok tt → holds (numbered k) E ≡ true in
     either P (holds (numbered k) E) (λ t q. t) (λ t q. absurd (let z : ◌≡◌ {A = ℕ} 0 1 = cc in omega arith))
 
 ---------------------------------------------------------------- of the words
@@ -125,29 +127,29 @@ unfolding after
 withdrawn_keeps w k E h g = rw (says-without ((length w - 2) / 4) k E g) at (kept {w = w} (record { long = refl; holds = h; fits = (holding w h).fits }) (withdrawing k))
 
 -- the frame that holds a name is withdrawn: the name is not found
-pub name_gone : (w : List ℕ) (E : List Entry) → held w ≡ some E → (e f : Entry) → In f E → alike e f ≡ true → look_up (withdraw w f.number).1 (text e) (size e) ≡ found.TheVariants.Nowhere
+pub name_gone : (w : List ℕ) (E : List Entry) → held w ≡ some E → (e f : Entry) → In f E → alike e f ≡ true → look_up (withdraw w f.number).1 (text e) (size e) ≡ Ok None
 unfolding look_up find
 name_gone w E h e f m a =
     let k = withdrawn_keeps w f.number E h (in_holds (numbered f.number) E m (eq-eqb f.number f.number refl)) in
     rw (k.holds, look_up) (rw (none_left e f E (holding w h).fits.orderly m a))
 
 -- "A repeated frame is not held, so withdrawing the first does not bring it in"
-pub not_brought_in : (w : List ℕ) (e : Entry) {k : ℕ} → (add w e).0 ≡ added.TheVariants.Repeated k → look_up (withdraw (add w e).1 k).1 (text e) (size e) ≡ found.TheVariants.Nowhere
+pub not_brought_in : (w : List ℕ) (e : Entry) {k : ℕ} → (add w e).0 ≡ Ok (Repeated k) → look_up (withdraw (add w e).1 k).1 (text e) (size e) ≡ Ok None
 unfolding add
 not_brought_in w e {k} h =
-    let s = sound (added.TheVariants.Refused 18) w (offer (room w) e) h (λ q. let z : ◌≡◌ {A = ℕ} 0 1 = cc in omega arith) in
+    let s = sound (Err NotABook) w (offer (room w) e) h (λ q. let z : ◌≡◌ {A = ℕ} 0 1 = cc in omega arith) in
     let r = repeated (room w) e s.0 s.2 in
     let i = first_in (alike e) s.0 r.0 in
     let v : (add w e).1 ≡ w = add_left w e (λ q. let z : ◌≡◌ {A = ℕ} 0 1 = cc in omega arith) in
     rw (v, ← r.1) (name_gone w s.0 s.1 e (first (alike e) s.0) i.0 i.1)
 
 -- "A frame number may be withdrawn, and its room is used again": a new name that a full book refused is taken
-pub room_again : (w : List ℕ) (e : Entry) (k : ℕ) → (add w e).0 ≡ added.TheVariants.Refused 10 → (withdraw w k).0 ≡ withdrawn.TheVariants.Gone → (add (withdraw w k).1 e).0 ≡ added.TheVariants.New
+pub room_again : (w : List ℕ) (e : Entry) (k : ℕ) → (add w e).0 ≡ Err BookFull → (withdraw w k).0 ≡ Ok tt → (add (withdraw w k).1 e).0 ≡ Ok New
 unfolding add withdraw
 room_again w e k h g =
-    let s = sound (added.TheVariants.Refused 18) w (offer (room w) e) h (λ q. let z : ◌≡◌ {A = ℕ} 18 10 = cc in omega arith) in
+    let s = sound (Err NotABook) w (offer (room w) e) h (λ q. let z : ◌≡◌ {A = ℕ} 0 1 = cc in omega arith) in
     let E = s.0 in
-    let t = sound (withdrawn.TheVariants.Refused 18) w (take_out k) g (λ q. let z : ◌≡◌ {A = ℕ} 0 1 = cc in omega arith) in
+    let t = sound (Err NotABook) w (take_out k) g (λ q. let z : ◌≡◌ {A = ℕ} 0 1 = cc in omega arith) in
     let m : holds (numbered k) E ≡ true = there_was k E (rw (some_is (sym t.1 ∙ s.1)) at t.2) in
     let v = withdrawn_keeps w k E s.1 m in
     rw (v.holds, opened, v.long) (taken_in (room w) e E k s.2 m (holding w s.1).fits.few)

@@ -12,7 +12,7 @@ use lib.Seq.{drop-drop, get_or-drop, drop_at, length-take-le}
 use borrow.Author.Tests.{lt-ltb, le-ltb}
 use borrow.Rule.Slice.PartMut.{put_mid}
 use Rattle.book_entries.specs.declared.Entry.{Entry}
-use Rattle.book_entries.specs.Entries.{text, size, bytes, good, words, entry_at}
+use Rattle.book_entries.specs.Entries.{text, size, good, words, entry_at}
 use Rattle.book_entries.specs.Book.{holds, named, numbered, picture, laid, entries, listed}
 use Rattle.std.specs.Prelude.{Option, Some, None, Result, Ok, Err}
 use Rattle.book_entries.proofs.Places.{from, next_of}
@@ -29,7 +29,7 @@ use Rattle.name_book.specs.declared.Added.TheVariants.{New, Repeated, NoName}
 use Rattle.name_book.specs.declared.Refusal.{Refusal}
 use Rattle.name_book.specs.declared.Refusal.TheVariants.{NotABook, NumberHeld, NoSuchFrame, BookFull}
 use Rattle.name_book.specs.declared.Frame.{Frame}
-use Rattle.name_book.specs.Calls.{opened, changed, first, offer, take_out, find, look_up, Leaves}
+use Rattle.name_book.specs.Calls.{opened, changed, first, offer, take_out, frame_of, find, look_up, Leaves}
 
 -- what the test of the slice has said
 module _ (w : List ℕ) {r : Bool} (e : held w ≡ cond r (some (entries (drop 2 w))) none) where
@@ -154,6 +154,6 @@ module _ (w : List ℕ) (t s : ℕ) where
   unfolding find
   find_nowhere n = rw n
 
-  pub find_at : {e : Entry} → holds (named t s) (entries w) ≡ true → e ≡ first (named t s) (entries w) → Some (record { number = e.number; bytes = bytes e }) ≡ find t s (entries w)
+  pub find_at : {e : Entry} → holds (named t s) (entries w) ≡ true → e ≡ first (named t s) (entries w) → Some (frame_of e) ≡ find t s (entries w)
   unfolding find
   find_at n f = rw (n, f)

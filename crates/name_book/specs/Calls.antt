@@ -51,9 +51,13 @@ unfoldable pub withdraw : List ℕ → ℕ → Result (Unit {0}) Refusal × List
 unfolding opened take_out
 withdraw w k = opened w (Err NotABook) (take_out k)
 
+-- the frame of an entry
+abbrev pub frame_of : Entry → Frame
+frame_of e = record { number = e.number; bytes = bytes e }
+
 -- "lookups find exactly those"
 unfoldable pub find : ℕ → ℕ → List Entry → Option Frame
-find t s E = cond (holds (named t s) E) (Some (record { number = (first (named t s) E).number; bytes = bytes (first (named t s) E) })) None
+find t s E = cond (holds (named t s) E) (Some (frame_of (first (named t s) E))) None
 
 unfoldable pub look_up : List ℕ → ℕ → ℕ → Result (Option Frame) Refusal
 unfolding find
