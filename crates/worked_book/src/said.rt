@@ -1,21 +1,14 @@
 // What a line says of an answer.
-use counted_books::{Free, free_places};
+use counted_books::free_places;
 use listing::{put, put_decimal, put_text};
-use loaded_books::Loaded;
-use name_book::Withdrawn;
-use saved_books::Saved;
 
 // The number of free places ends a line.
 pub fn end(line: &mut [u8; 1024], n: usize, book: &[u32]) {
     let mut m = put_text(line, n, b", free ");
-    match free_places(book) {
-        Free::Places { count } => {
-            m = put_decimal(line, m, count);
-        }
-        Free::Refused { number } => {
-            m = put_refusal(line, m, number);
-        }
-    }
+    m = match free_places(book) {
+        Ok(count) => put_decimal(line, m, count),
+        Err(refusal) => put_refusal(line, m, refusal.number()),
+    };
     listing::write(line, m);
 }
 
@@ -24,46 +17,54 @@ fn put_refusal(line: &mut [u8; 1024], n: usize, number: u64) -> usize {
     put_decimal(line, m, number)
 }
 
-pub fn put_loaded(line: &mut [u8; 1024], answer: Loaded) -> usize {
+pub fn put_loaded(line: &mut [u8; 1024], answer: Result<usize, loaded_books::Refusal>) -> usize {
     match answer {
-        Loaded::Done { names } => {
+        Ok(names) => {
             let m = put_text(line, 0, b"loaded ");
             put_decimal(line, m, names as u64)
         }
-        Loaded::Refused { number } => put_refusal(line, 0, number),
+        Err(refusal) => put_refusal(line, 0, refusal.number()),
     }
 }
 
-pub fn put_withdrawn(line: &mut [u8; 1024], answer: Withdrawn) -> usize {
+pub fn put_withdrawn(line: &mut [u8; 1024], answer: Result<(), name_book::Refusal>) -> usize {
     match answer {
-        Withdrawn::Gone => put_text(line, 0, b"gone"),
-        Withdrawn::Refused { number } => put_refusal(line, 0, number),
+        Ok(()) => put_text(line, 0, b"gone"),
+        Err(refusal) => put_refusal(line, 0, refusal.number()),
     }
 }
 
-pub fn put_saved(line: &mut [u8; 1024], answer: Saved, out: &[u8]) -> usize {
+pub fn put_saved(
+    line: &mut [u8; 1024],
+    answer: Result<usize, saved_books::Refusal>,
+    out: &[u8],
+) -> usize {
     match answer {
-        Saved::Wrote { bytes } => {
+        Ok(bytes) => {
             let m = put_text(line, 0, b"wrote");
             put_lines(line, m, out, bytes)
         }
-        Saved::Refused { number, need } => {
-            let mut m = put_refusal(line, 0, number);
+        Err(refusal) => {
+            let mut m = put_refusal(line, 0, refusal.number());
             m = put_text(line, m, b" ");
-            put_decimal(line, m, need as u64)
+            put_decimal(line, m, need(refusal) as u64)
         }
+    }
+}
+
+// The bytes needed, 0 where it is not for them that nothing is saved.
+fn need(refusal: saved_books::Refusal) -> usize {
+    match refusal {
+        saved_books::Refusal::TooFewBytes { need } => need,
+        saved_books::Refusal::NotABook => 0,
     }
 }
 
 // The first k bytes of a saved text, a space for each line feed.
 fn put_lines(line: &mut [u8; 1024], n: usize, text: &[u8], k: usize) -> usize {
     let mut m = put(line, n, b' ');
-    let mut i = 0;
-    while i < k {
-        if i < text.len() {
-            m = put_byte(line, m, text[i]);
-        }
-        i += 1;
+    for byte in text.iter().take(k) {
+        m = put_byte(line, m, *byte);
     }
     m
 }

@@ -1,7 +1,7 @@
 // What is held and counted at the end.
-use counted_books::{Free, free_places};
+use counted_books::free_places;
 use listing::{put_decimal, put_text};
-use name_book::{Found, look_up};
+use name_book::{Frame, Refusal, look_up};
 use station::Shift;
 
 // A name of two characters, with its frame's number and byte length.
@@ -19,28 +19,28 @@ pub fn free(book: &[u32; 10]) {
     let mut line = listing::new();
     let mut n = put_text(&mut line, 0, b"free: ");
     match free_places(book) {
-        Free::Places { count } => {
+        Ok(count) => {
             n = put_decimal(&mut line, n, count);
         }
-        Free::Refused { number } => {
+        Err(refusal) => {
             n = put_text(&mut line, n, b"no ");
-            n = put_decimal(&mut line, n, number);
+            n = put_decimal(&mut line, n, refusal.number());
         }
     }
     listing::write(&mut line, n);
 }
 
-fn put_found(line: &mut [u8; 1024], n: usize, found: Found) -> usize {
+fn put_found(line: &mut [u8; 1024], n: usize, found: Result<Option<Frame>, Refusal>) -> usize {
     match found {
-        Found::At { number, bytes } => {
-            let mut m = put_decimal(line, n, number as u64);
+        Ok(Some(frame)) => {
+            let mut m = put_decimal(line, n, frame.number as u64);
             m = put_text(line, m, b" ");
-            put_decimal(line, m, bytes as u64)
+            put_decimal(line, m, frame.bytes as u64)
         }
-        Found::Nowhere => put_text(line, n, b"nowhere"),
-        Found::Refused { number } => {
+        Ok(None) => put_text(line, n, b"nowhere"),
+        Err(refusal) => {
             let m = put_text(line, n, b"no ");
-            put_decimal(line, m, number)
+            put_decimal(line, m, refusal.number())
         }
     }
 }
