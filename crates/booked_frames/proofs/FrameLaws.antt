@@ -11,11 +11,13 @@ use Rattle.forward_names.specs.declared.Named.{Named}
 use Rattle.forward_names.specs.Names.{forward_name}
 use Rattle.named_entries.specs.Made.{entry_of}
 use Rattle.named_entries.proofs.GoodNames.{named-good, short, small}
+use Rattle.std.specs.Prelude.{Result}
 use Rattle.name_book.specs.declared.Added.{Added}
+use Rattle.name_book.specs.declared.Refusal.{Refusal}
 use Rattle.name_book.specs.Calls.{add, Leaves}
 use Rattle.booked_frames.specs.Frames.{nameless, offered, add_frame}
 
-module _ (w s : List ℕ) (k : ℕ) (down up : List ℕ) {n : Named} (e : n ≡ forward_name s down up) {r : Added} {v : List ℕ} where
+module _ (w s : List ℕ) (k : ℕ) (down up : List ℕ) {n : Named} (e : n ≡ forward_name s down up) {r : Result Added Refusal} {v : List ℕ} where
   pub no_name : (n.number ≡ 0 → ⊥) → Leaves r v (add w (nameless k)) → Leaves r v (add_frame w s k down up)
   unfolding add_frame offered
   no_name z x = record { is = rw (← e, ne_eqb n.number 0 z) x.is }

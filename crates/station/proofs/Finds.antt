@@ -1,5 +1,5 @@
 -- A name that was found is found with the same frame after any calls of any stations.
-use Rattle.std.proofs.Common.{◌≡◌, ℕ, suc, Bool, true, false, cond, ◌&&◌, ◌||◌, eqb, List, [], ◌∷◌, get_or, sym, refl, ◌∙◌, true≢false, arith, eq-eqb, eqb-true}
+use Rattle.std.proofs.Common.{◌≡◌, ℕ, suc, Bool, true, false, cond, ◌&&◌, ◌||◌, eqb, List, [], ◌∷◌, get_or, sym, refl, ap, ◌∙◌, true≢false, arith, eq-eqb, eqb-true}
 use mathlib.Core.Bool.{false≢true}
 use mathlib.Core.Option.{Option, none, some}
 use Rattle.book_entries.specs.declared.Entry.{Entry}
@@ -9,8 +9,12 @@ use Rattle.counted_books.specs.Counted.{held}
 use Rattle.book_entries.proofs.Tests.{both}
 use Rattle.book_changes.specs.Changes.{vacant}
 use Rattle.book_changes.proofs.Orderly.{first-fair, others}
-use Rattle.name_book.specs.Calls.{first, find, look_up}
-use Rattle.name_book.specs.declared.Found as found
+use Rattle.std.specs.Prelude.{Some, None, Result, Ok, Err}
+use Rattle.std.specs.Prelude as given
+use Rattle.name_book.specs.Calls.{first, frame_of, find, look_up}
+use Rattle.name_book.specs.declared.Frame.{Frame}
+use Rattle.name_book.specs.declared.Refusal.{Refusal}
+use Rattle.name_book.specs.declared.Refusal.TheVariants.{NotABook}
 use Rattle.station.specs.Shifts.{Turn, run}
 use Rattle.station.proofs.Stays.{bindings_stay}
 
@@ -54,33 +58,35 @@ abbrev bound_to : ℕ → ℕ → Entry → Bool
 bound_to k b e = eqb e.number k && eqb (bytes e) b
 
 module _ (t s k b : ℕ) where
-  found_so : (E : List Entry) → find t s E ≡ found.TheVariants.At k b → holds (λ f. named t s f && bound_to k b f) E ≡ true
+  found_so : (E : List Entry) → find t s E ≡ Some (record { number = k; bytes = b }) → holds (λ f. named t s f && bound_to k b f) E ≡ true
   unfolding find
   found_so E e = go (holds (named t s) E) refl e
     where
       f : Entry
       f = first (named t s) E
 
-      go : (h : Bool) → holds (named t s) E ≡ h → cond h (found.TheVariants.At f.number (bytes f)) found.TheVariants.Nowhere ≡ found.TheVariants.At k b → holds (λ f. named t s f && bound_to k b f) E ≡ true
+      go : (h : Bool) → holds (named t s) E ≡ h → cond {A = given.Option Frame} h (Some (frame_of f)) None ≡ Some (record { number = k; bytes = b }) → holds (λ f. named t s f && bound_to k b f) E ≡ true
       go true h q =
-          let x : f.number ≡ k = cc in
-          let y : bytes f ≡ b = cc in
+          let z : ◌≡◌ {A = Frame} (frame_of f) (record { number = k; bytes = b }) = cc in
+          let x : f.number ≡ k = ap (λ (g : Frame). g.number) z in
+          let y : bytes f ≡ b = ap (λ (g : Frame). g.bytes) z in
           some-has (named t s) (bound_to k b) E h (rw (eq-eqb f.number k x, eq-eqb (bytes f) b y))
       go false h q = absurd (let z : ◌≡◌ {A = ℕ} 0 1 = cc in omega arith)
 
-  so_found : (E : List Entry) → orderly E ≡ true → holds (λ f. named t s f && bound_to k b f) E ≡ true → find t s E ≡ found.TheVariants.At k b
+  so_found : (E : List Entry) → orderly E ≡ true → holds (λ f. named t s f && bound_to k b f) E ≡ true → find t s E ≡ Some (record { number = k; bytes = b })
   unfolding find
   so_found E o h =
       let f = first (named t s) E in
       let i = both (eqb f.number k) (eqb (bytes f) b) (first-has t s (bound_to k b) E o h) in
       rw (some_fits (named t s) (bound_to k b) E h, eqb-true f.number k i.0, eqb-true (bytes f) b i.1)
 
-  pub found_again : (w : List ℕ) (ts : List Turn) → look_up w t s ≡ found.TheVariants.At k b → look_up (run w ts) t s ≡ found.TheVariants.At k b
+  pub found_again : (w : List ℕ) (ts : List Turn) → look_up w t s ≡ Ok (Some (record { number = k; bytes = b })) → look_up (run w ts) t s ≡ Ok (Some (record { number = k; bytes = b }))
   unfolding look_up
   found_again w ts e = go (held w) refl e
     where
-      go : (o : Option (List Entry)) → held w ≡ o → elim o [ none ↦ found.TheVariants.Refused 18 | some E ↦ find t s E ] ≡ found.TheVariants.At k b → look_up (run w ts) t s ≡ found.TheVariants.At k b
+      go : (o : Option (List Entry)) → held w ≡ o → ◌≡◌ {A = Result (given.Option Frame) Refusal} (elim o [ none ↦ Err NotABook | some E ↦ Ok (find t s E) ]) (Ok (Some (record { number = k; bytes = b }))) → look_up (run w ts) t s ≡ Ok (Some (record { number = k; bytes = b }))
       go none h q = absurd (let z : ◌≡◌ {A = ℕ} 0 1 = cc in omega arith)
       go (some E) h q =
           let i = bindings_stay w E h ts in
-          rw (i.keeps.holds, look_up) (so_found i.now i.keeps.fits.orderly (i.stays (λ f. named t s f && bound_to k b f) (found_so E q)))
+          let p : ◌≡◌ {A = given.Option Frame} (find t s E) (Some (record { number = k; bytes = b })) = cc in
+          rw (i.keeps.holds, look_up) (ap (λ (f : given.Option Frame). Ok f) (so_found i.now i.keeps.fits.orderly (i.stays (λ f. named t s f && bound_to k b f) (found_so E p))))

@@ -4,7 +4,9 @@ use native.Mathlib.Decide.{ℕ_discrete}
 use borrow.Author.Tests.{lt-leb}
 use Rattle.forward_names.specs.declared.Named.{Named}
 use Rattle.named_entries.proofs.GoodNames.{short, small}
+use Rattle.std.specs.Prelude.{Result}
 use Rattle.name_book.specs.declared.Added.{Added}
+use Rattle.name_book.specs.declared.Refusal.{Refusal}
 use Rattle.name_book.specs.Calls.{add, Leaves}
 use Rattle.station.specs.declared.Offered.{Offered}
 use Rattle.station.specs.declared.Offered.TheVariants.{Refused}
@@ -28,7 +30,7 @@ module _ (c : Call) (w : List ℕ) {r : Offered} where
       unfolding offer
       beyond l a = record { is = rw (h, a, ← e, eq-eqb n.number 0 z, lt-leb n.reach c.arrived l) }
 
-      pub booked : n.reach ≤ c.arrived → {a : Added} {v : List ℕ} → Leaves a v (add w (entry c)) → r ≡ answered n.reach a → Leaves r v (offer c w)
+      pub booked : n.reach ≤ c.arrived → {a : Result Added Refusal} {v : List ℕ} → Leaves a v (add w (entry c)) → r ≡ answered n.reach a → Leaves r v (offer c w)
       unfolding offer
       booked l i a = record { is = rw (a, e, h, eq-eqb (name_of c).number 0 (rw e at z), le-leb (name_of c).reach c.arrived (rw e at l), ← i.is) }
 

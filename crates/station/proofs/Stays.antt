@@ -9,7 +9,9 @@ use Rattle.counted_books.proofs.Held.{holding}
 use Rattle.book_changes.proofs.Orderly.{alike, holds-insert}
 use Rattle.name_book.specs.Calls as book
 use Rattle.name_book.specs.Calls.{add}
+use Rattle.std.specs.Prelude.{Result}
 use Rattle.name_book.specs.declared.Added.{Added}
+use Rattle.name_book.specs.declared.Refusal.{Refusal}
 use Rattle.book_history.specs.History.{adding, after, says}
 use Rattle.book_history.specs.Keeps.{Keeps}
 use Rattle.book_history.proofs.Kept.{kept}
@@ -30,7 +32,7 @@ or-true false = refl
 stays : (fits : Entry → Bool) (places : ℕ) (e : Entry) (E : List Entry) → holds fits E ≡ true → holds fits (book.offer places e E).1 ≡ true
 unfolding book.offer
 stays fits places e E h =
-    let P : Added × List Entry → Type 0 = λ o. holds fits o.1 ≡ true in
+    let P : Result Added Refusal × List Entry → Type 0 = λ o. holds fits o.1 ≡ true in
     branch P (holds (numbered e.number) E) h (branch P (not (good e)) h (branch P (holds (alike e) E) h
     (branch P (ltb (length E) places) (holds-insert fits e E ∙ rw h (or-true (fits e))) h)))
 

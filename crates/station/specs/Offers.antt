@@ -1,12 +1,14 @@
 -- What a station's call answers, and what the book holds afterwards.
-use Rattle.std.specs.Prelude.{ℕ, ◌*◌, cond, List, length, ◌==◌, nat_le}
+use Rattle.std.specs.Prelude.{ℕ, ◌*◌, cond, List, length, ◌==◌, nat_le, Result, Ok, Err}
 use Rattle.book_entries.specs.declared.Entry.{Entry}
 use Rattle.forward_names.specs.declared.Named.{Named}
 use Rattle.forward_names.specs.Names.{forward_name}
 use Rattle.named_entries.specs.Made.{entry_of}
 use Rattle.name_book.specs.declared.Added.{Added}
 use Rattle.name_book.specs.declared.Added as added
+use Rattle.name_book.specs.declared.Refusal.{Refusal}
 use Rattle.name_book.specs.Calls.{add}
+use Rattle.name_book.specs.Calls as book
 use Rattle.station.specs.declared.Offered.{Offered}
 use Rattle.station.specs.declared.Offered.TheVariants.{Bound, Repeated, Refused}
 
@@ -30,11 +32,11 @@ abbrev pub entry : Call → Entry
 entry c = entry_of (name_of c) c.number (length c.capture)
 
 -- the book's answer as the station's; a name that was read is never without a name (named-good)
-abbrev pub answered : ℕ → Added → Offered
-answered p added.TheVariants.New = Bound
-answered p (added.TheVariants.Repeated k) = Repeated k
-answered p added.TheVariants.NoName = Refused 19 p 0
-answered p (added.TheVariants.Refused n) = Refused n p 0
+abbrev pub answered : ℕ → Result Added Refusal → Offered
+answered p (Ok added.TheVariants.New) = Bound
+answered p (Ok (added.TheVariants.Repeated k)) = Repeated k
+answered p (Ok added.TheVariants.NoName) = Refused 19 p 0
+answered p (Err r) = Refused (book.number r) p 0
 
 -- "21 is asked first, then those of the reading, then 19 for not clean or no name, then 22, then those of the book"
 unfoldable pub offer : Call → List ℕ → Offered × List ℕ

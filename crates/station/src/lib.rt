@@ -7,7 +7,7 @@ ghost use Rattle.station.specs.Offers.{call, offer as Offers·offer, answered as
 ghost use Rattle.station.specs.Shifts.{none_yet, next as Shifts·next, counted as Shifts·counted, offer_counted};
 
 use forward_names::forward_name;
-use name_book::{Added, add_entry};
+use name_book::{Added, Refusal, add_entry};
 use named_entries::entry_of;
 use std::num::wrapping_add_u64;
 
@@ -100,14 +100,14 @@ fn holds_bits(bytes: usize, bits: usize) -> bool
 }
 
 // The book's answer as the station's.
-fn answered(added: Added, reach: usize) -> Offered
+fn answered(added: Result<Added, Refusal>, reach: usize) -> Offered
     ensures { result ≡ Offers·answered reach added }
 {
     match added {
-        Added::New => Offered::Bound,
-        Added::Repeated { number } => Offered::Repeated { number: number },
-        Added::NoName => refused(19, reach, 0),
-        Added::Refused { number } => refused(number, reach, 0),
+        Ok(Added::New) => Offered::Bound,
+        Ok(Added::Repeated { number }) => Offered::Repeated { number },
+        Ok(Added::NoName) => refused(19, reach, 0),
+        Err(refusal) => refused(refusal.number(), reach, 0),
     }
 }
 
