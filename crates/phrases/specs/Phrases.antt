@@ -1,6 +1,5 @@
 -- Phrases: "a lent byte table per direction, one a line in index order", and the phrase "with its brackets filled as `fill_phrase` does, unclosed brackets too".
-use Rattle.std.specs.Prelude.{cond, List, [], ◌∷◌, ◌++◌, ℕ, zero, suc, ◌+◌, length, take, drop, ltb, eqb}
-use Rattle.std.proofs.Math.Option.{Option, none, some}
+use Rattle.std.specs.Prelude.{cond, Option, None, Some, List, [], ◌∷◌, ◌++◌, ℕ, zero, suc, ◌+◌, length, take, drop, ltb, eqb}
 
 -- the place of the first c, and the length where there is none
 unfoldable pub place : ℕ → List ℕ → ℕ
@@ -9,13 +8,13 @@ place c (x ∷ t) = cond (eqb x c) 0 (suc (place c t))
 
 -- line i, its line feed (10) left out; a last line without one counts if it is not empty
 unfoldable pub phrase_of : List ℕ → ℕ → Option (List ℕ)
-phrase_of t zero = cond (eqb (length t) 0) none (some (take (place 10 t) t))
+phrase_of t zero = cond (eqb (length t) 0) None (Some (take (place 10 t) t))
 phrase_of t (suc i) = phrase_of (drop (place 10 t + 1) t) i
 
 -- line i, and nothing where there is none
 unfoldable pub or_nothing : Option (List ℕ) → List ℕ
-or_nothing none = []
-or_nothing (some l) = l
+or_nothing None = []
+or_nothing (Some l) = l
 
 unfoldable pub line_of : List ℕ → ℕ → List ℕ
 line_of t i = or_nothing (phrase_of t i)

@@ -1,75 +1,52 @@
 // Phrases: the lines of a lent table, and the brackets of a phrase.
 #![tactic(auto)]
 
-ghost use Rattle.std.specs.Prelude.{false, ◌≡◌, ◌^◌, ◌<◌, length};
+ghost use Rattle.std.specs.Prelude.{◌≡◌, ◌==◌, ◌^◌, ◌<◌, length, position};
+ghost use Rattle.std.specs.Option.{option_copied};
 ghost use Rattle.screen_bytes.specs.Put.{Put};
-ghost use Rattle.phrases.specs.Phrases.{line_of};
-ghost use Rattle.phrases.specs.Found.{Placed, Found, Bracketed};
+ghost use Rattle.phrases.specs.Phrases.{phrase_of, line_of};
+ghost use Rattle.phrases.specs.Found.{Placed, Bracketed};
 
 use screen_bytes::put_text;
 
-// A line of a table: whether there is one, its first byte and its length.
-#[derive(Clone, Copy)]
-pub struct Phrase {
-    pub has: bool,
-    pub from: usize,
-    pub len: usize,
-}
-
-// The first bracket of a phrase: where it opens and where it closes; where it does not, the phrase's length.
+// A bracket of a phrase: where it opens and where it closes.
 #[derive(Clone, Copy)]
 pub struct Bracket {
     pub opens: usize,
     pub closes: usize,
 }
 
-// The place of the first c in a text, and the text's length where there is none.
+// The place of the first c in a text.
+fn first(text: &[u8], c: u8) -> Option<usize>
+    ensures { result ≡ position (λ b. b == c) text.now }
+{
+    text.iter().position(|b| *b == c)
+}
+
+// The same, and the text's length where there is none.
 pub fn place(text: &[u8], c: u8) -> usize
     ensures { Placed c text.now result }
 {
-    let mut i = 0;
-    while i < text.len() {
-        if text[i] == c {
-            return i;
-        }
-        i += 1;
-    }
-    i
+    first(text, c).unwrap_or(text.len())
 }
 
-// The phrase of an index.
-pub fn phrase_of(table: &[u8], index: u64) -> Phrase
-    ensures { Found table.now index result }
+// The phrase of an index: a line of the table, if there is one.
+pub fn phrase_of(table: &[u8], index: u64) -> Option<&[u8]>
+    ensures { option_copied result ≡ phrase_of table.now index }
 {
-    let mut from = 0;
-    let mut left = index;
-    while from < table.len() {
-        let len = place(&table[from..], b'\n');
-        if left == 0 {
-            return Phrase {
-                has: true,
-                from: from,
-                len: len,
-            };
+    let mut rest = table;
+    for _ in 0..index {
+        let end = place(rest, b'\n');
+        if rest.len() <= end {
+            return None;
         }
-        let end = from + len;
-        if table.len() <= end {
-            return no_phrase();
-        }
-        left -= 1;
-        from = end + 1;
+        rest = &rest[end + 1..];
     }
-    no_phrase()
-}
-
-fn no_phrase() -> Phrase
-    ensures { result ≡ record { has = false; from = 0; len = 0 } }
-{
-    Phrase {
-        has: false,
-        from: 0,
-        len: 0,
+    if rest.is_empty() {
+        return None;
     }
+    let end = place(rest, b'\n');
+    Some(&rest[..end])
 }
 
 // A line of a table, and nothing where there is none.
@@ -77,22 +54,20 @@ pub fn put_line(out: &mut [u8], at: usize, table: &[u8], index: u64) -> usize
     requires { (at < 2 ^ 61) × (length table.now < 2 ^ 61) }
     ensures { Put (length table.now) out.old out.new at result (line_of table.now index) }
 {
-    let p = phrase_of(table, index);
-    if !p.has {
-        return at;
+    match phrase_of(table, index) {
+        Some(phrase) => put_text(out, at, phrase),
+        None => at,
     }
-    let from = p.from;
-    let end = from + p.len;
-    put_text(out, at, &table[from..end])
 }
 
-pub fn first_bracket(phrase: &[u8]) -> Bracket
+// The first bracket, if it is closed.
+pub fn first_bracket(phrase: &[u8]) -> Option<Bracket>
     ensures { Bracketed phrase.now result }
 {
     let opens = place(phrase, b'[');
     let closes = opens + place(&phrase[opens..], b']');
-    Bracket {
-        opens: opens,
-        closes: closes,
+    if phrase.len() <= closes {
+        return None;
     }
+    Some(Bracket { opens, closes })
 }

@@ -56,9 +56,9 @@ fn record_from(words: &[u64], at: usize) -> Record
     let value = words[at + 2];
     let second = words[at + 3];
     Record {
-        tag: tag,
-        element: element,
-        value: value,
-        second: second,
+        tag,
+        element,
+        value,
+        second,
     }
 }

@@ -19,10 +19,8 @@ pub fn put_text(out: &mut [u8], at: usize, text: &[u8]) -> usize
     ensures { Put (length text.now) out.old out.new at result text.now }
 {
     let mut m = at;
-    let mut i = 0;
-    while i < text.len() {
-        m = put_byte(out, m, text[i]);
-        i += 1;
+    for b in text {
+        m = put_byte(out, m, *b);
     }
     m
 }

@@ -1,9 +1,8 @@
-use native.Mathlib.Omega.{arith}
-use Rattle.phrases.proofs.PhraseLaws.{brackets}
+use Rattle.phrases.proofs.PhraseLaws.{closed, unclosed}
 use Rattle.phrases.proofs.first_bracket.Goals as goal
 
-pub overflow_add-closes : goal.overflow_add-closes
-overflow_add-closes c = omega (arith, (brackets c.args.phrase.now c.place-opens.ensures c.place.ensures).within)
+pub returns-then-phrase-closes : goal.returns-then-phrase-closes
+returns-then-phrase-closes c = unclosed _ c.place-opens.ensures c.place.ensures c.if-phrase-closes.true
 
 pub returns : goal.returns
-returns c = brackets _ c.place-opens.ensures c.place.ensures
+returns c = closed _ c.place-opens.ensures c.place.ensures c.if-phrase-closes.false

@@ -1,24 +1,16 @@
-use borrow.Author.Rules.{rules}
-use mathlib.Core.Path.{refl}
-use Prim.Native.Nat.{◌-◌}
-use native.Mathlib.Omega.{arith}
-use Rattle.phrases.proofs.PhraseLaws.{is_here, passed, was_last, past_end, no_phrase, tail_placed}
+use Rattle.std.proofs.Common.{rules, arith, sym, ◌∙◌, ◌+◌, ◌-◌, length, drop}
+use lib.ListN.{length-take, length-drop}
+use Rattle.phrases.proofs.PhraseLaws.{is_here, is_past, was_last, onward}
 use Rattle.phrases.proofs.phrase_of.Goals as goal
 
-pub loop-from-init : goal.loop-from-init
-loop-from-init c = (search rules, refl)
+pub returns-then-rest-end : goal.returns-then-rest-end
+returns-then-rest-end c = was_last c.loop.rest.now (c.args.index - c.loop.counter) c.place-end.result (omega arith) c.place-end.ensures c.if-rest-end.true ∙ sym c.loop.invariant.1
 
-pub returns-then-left-eq0 : goal.returns-then-left-eq0
-returns-then-left-eq0 c = is_here _ _ _ _ _ c.loop-from.invariant.1 c.loop-from-test.true c.if-left-eq0.true (tail_placed _ _ c.loop-from.invariant.0 c.place-len.ensures)
+pub loop-preserved : goal.loop-preserved
+loop-preserved c = (omega (arith, c.loop.invariant.0, length-drop (c.place-end.result + 1) c.loop.rest.now, length-take (length c.loop.rest.now - (c.place-end.result + 1)) (drop (c.place-end.result + 1) c.loop.rest.now)), c.loop.invariant.1 ∙ onward c.loop.rest.now (c.args.index - c.loop.counter) (c.args.index - (c.loop.counter + 1)) c.place-end.result (omega arith) (omega arith) c.place-end.ensures)
 
-pub overflow_add-end : goal.overflow_add-end
-overflow_add-end c = omega (arith, (tail_placed c.args.table.now c.loop-from.from c.loop-from.invariant.0 c.place-len.ensures).within)
-
-pub returns-then-table-end : goal.returns-then-table-end
-returns-then-table-end c = rw c.no_phrase.ensures (no_phrase _ _ (was_last _ _ _ _ _ c.loop-from.invariant.1 c.if-left-eq0.false (tail_placed _ _ c.loop-from.invariant.0 c.place-len.ensures) c.if-table-end.true))
-
-pub loop-from-preserved : goal.loop-from-preserved
-loop-from-preserved c = (omega arith, passed _ _ _ _ _ c.loop-from.invariant.1 c.if-left-eq0.false (tail_placed _ _ c.loop-from.invariant.0 c.place-len.ensures))
+pub returns-then-is_empty : goal.returns-then-is_empty
+returns-then-is_empty c = is_past _ _ (search rules) ∙ sym c.loop.invariant.1
 
 pub returns : goal.returns
-returns c = rw c.no_phrase-2.ensures (no_phrase _ _ (past_end _ _ _ _ 0 c.loop-from.invariant.1 c.loop-from-test.false))
+returns c = is_here c.loop.rest.now (c.args.index - c.loop.counter) c.place-end-2.result (omega arith) c.is_empty.ensures c.if-is_empty.false c.place-end-2.ensures ∙ sym c.loop.invariant.1

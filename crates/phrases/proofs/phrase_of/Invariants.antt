@@ -1,12 +1,7 @@
--- The invariant: the lines before byte `from` are passed, and `left` more are to be. The measure is what is left of the table.
-use mathlib.Core.Path.{◌≡◌}
-use Prim.Native.Nat.{◌-◌, ◌≤◌}
-use lib.ListN.{length, drop}
+-- The invariant: as many lines are passed as were counted, and the phrase is that many lines nearer.
+use Rattle.std.proofs.Common.{◌≡◌, ◌-◌, ◌≤◌, length}
 use Rattle.phrases.specs.Phrases.{phrase_of}
 use Rattle.phrases.proofs.phrase_of.Given as goal
 
-abbrev pub invariant-loop-from : goal.invariant-loop-from
-invariant-loop-from l = (l.from ≤ length l.table) × (phrase_of l.table l.index ≡ phrase_of (drop l.from l.table) l.left)
-
-abbrev pub decreases-loop-from : goal.decreases-loop-from
-decreases-loop-from l = length l.table - l.from
+abbrev pub invariant-loop : goal.invariant-loop
+invariant-loop l = (length l.rest ≤ length l.table) × (phrase_of l.table l.index ≡ phrase_of l.rest (l.index - l.counter))
