@@ -1,18 +1,72 @@
 -- A record that was fetched, and what follows from it for an element.
-use mathlib.Core.Bool.{Bool, true, ◌&&◌}
+use mathlib.Core.Bool.{Bool, true, false, not, ◌&&◌}
 use mathlib.Core.List.{List}
-use mathlib.Core.Path.{◌≡◌, sym, ap}
+use mathlib.Core.Path.{◌≡◌, refl, sym, ap}
 use Prim.Native.Nat.{ℕ, ◌+◌, ◌≤◌, ◌<◌}
 use native.Mathlib.Numerals.{add-one}
 use borrow.Author.Tests.{eq-eqb, ne_eqb}
+use native.Mathlib.Omega.{arith}
+use denote.Enum.Bare.{sameb}
+use denote.Enum.Declared.{tag_of}
+use Rattle.std.specs.Prelude.{Option, None, Some, eqb}
+use Rattle.std.specs.Option.{option_eq, is_some}
+use Rattle.element_kinds.specs.declared.Kind.{Kind}
+use Rattle.element_kinds.specs.declared.Kind.TheVariants.{Position, Speed, SpeedType, ThreeSpeedTypes, Level, Degrees, Frequency, Code, TrafficType, ClearanceType, ErrorInformation, FacilityFunction, Procedure, Runway, Coordinates, DepartureClearance}
+use Rattle.element_kinds.specs.contracts.Kind.{the_type}
 use Rattle.atn.specs.Reading.{Rec}
 use Rattle.record_views.specs.View.{count, record_at, records_from, fetched}
 use Rattle.record_views.specs.declared.Record.{Record}
 use Rattle.record_views.proofs.ViewLaws.{from_here, from_end}
 use Rattle.screen_records.specs.Fields.{tag}
 use Rattle.screen_records.proofs.FieldLaws.{behind, here}
-use Rattle.element_kinds.specs.Kinds.{kind_by, kind_of}
-use Rattle.element_kinds.specs.Agreed.{kind_agrees, one_agrees, later_agree, element_agrees, agreed}
+use Rattle.element_kinds.specs.Kinds.{byte, byte_of, kind_by, kind_of}
+use Rattle.element_kinds.specs.Agreed.{is_last, kind_agrees, one_agrees, later_agree, element_agrees, agreed}
+
+-- kinds are the same where their bytes are
+kind-tag : (k : Kind) → byte k ≡ tag_of the_type k + 1
+kind-tag Position = refl
+kind-tag Speed = refl
+kind-tag SpeedType = refl
+kind-tag ThreeSpeedTypes = refl
+kind-tag Level = refl
+kind-tag Degrees = refl
+kind-tag Frequency = refl
+kind-tag Code = refl
+kind-tag TrafficType = refl
+kind-tag ClearanceType = refl
+kind-tag ErrorInformation = refl
+kind-tag FacilityFunction = refl
+kind-tag Procedure = refl
+kind-tag Runway = refl
+kind-tag Coordinates = refl
+kind-tag DepartureClearance = refl
+
+next-same : (m n : ℕ) → eqb m n ≡ eqb (m + 1) (n + 1)
+next-same m n = grind arith
+
+pub same-byte : (k kind : Option Kind) → option_eq (sameb the_type) k kind ≡ eqb (byte_of k) (byte_of kind)
+same-byte None None = refl
+same-byte None (Some y) = sym (ne_eqb 0 (byte y) (omega (arith, kind-tag y)))
+same-byte (Some x) None = sym (ne_eqb (byte x) 0 (omega (arith, kind-tag x)))
+same-byte (Some x) (Some y) = rw (kind-tag x, kind-tag y) (next-same (tag_of the_type x) (tag_of the_type y))
+
+none-byte : (k : Option Kind) → eqb (byte_of k) 0 ≡ not (is_some k)
+none-byte None = refl
+none-byte (Some x) = ne_eqb (byte x) 0 (omega (arith, kind-tag x))
+
+-- an argument of the same kind, none, and another
+module _ (kind k : Option Kind) (t : ℕ) where
+  pub same-kind : option_eq (sameb the_type) k kind ≡ true → true ≡ kind_agrees (byte_of kind) (byte_of k) t
+  unfolding kind_agrees
+  same-kind h = rw (← same-byte k kind, h) refl
+
+  pub no-kind : {b : Bool} → option_eq (sameb the_type) k kind ≡ false → is_some k ≡ false → b ≡ is_last t → b ≡ kind_agrees (byte_of kind) (byte_of k) t
+  unfolding kind_agrees
+  no-kind h g e = rw (← same-byte k kind, h, none-byte k, g) e
+
+  pub other-kind : option_eq (sameb the_type) k kind ≡ false → is_some k ≡ true → false ≡ kind_agrees (byte_of kind) (byte_of k) t
+  unfolding kind_agrees
+  other-kind h g = rw (← same-byte k kind, h, none-byte k, g) refl
 
 -- the tag of the record k behind i
 pub tag_at : (w : List ℕ) (i k : ℕ) {x : Record} → x ≡ fetched (record_at w (i + k)) → tag (records_from i w) k ≡ x.tag

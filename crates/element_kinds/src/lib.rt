@@ -3,7 +3,7 @@
 
 ghost use Rattle.std.specs.Prelude.{◌≡◌, ◌+◌, ◌^◌, ◌<◌};
 ghost use Rattle.record_views.specs.View.{record_at, records_from};
-ghost use Rattle.element_kinds.specs.Kinds.{kind_by, kind_of};
+ghost use Rattle.element_kinds.specs.Kinds.{byte_of, kind_by, kind_of};
 ghost use Rattle.element_kinds.specs.Agreed.{is_last, kind_agrees, one_agrees, later_agree, element_agrees, agreed};
 
 use cpdlc_tags::{
@@ -13,122 +13,106 @@ use cpdlc_tags::{
 };
 use record_views::{record_at, records_in};
 
+// What an element's argument is.
+#[derive(Clone, Copy, PartialEq, Eq)]
+pub enum Kind {
+    Position,
+    Speed,
+    SpeedType,
+    ThreeSpeedTypes,
+    Level,
+    Degrees,
+    Frequency,
+    Code,
+    TrafficType,
+    ClearanceType,
+    ErrorInformation,
+    FacilityFunction,
+    Procedure,
+    Runway,
+    Coordinates,
+    DepartureClearance,
+}
+
 // The argument's kind by the first two tags behind an element's index.
-fn kind_by(t: u64, u: u64) -> u64
-    ensures { result ≡ kind_by t u }
+#[tactic(auto, unfolding(crate::specs::Kinds::kind_by))]
+fn kind_by(t: u64, u: u64) -> Option<Kind>
+    ensures { byte_of result ≡ kind_by t u }
 {
-    if t == POSITION {
-        return 1;
-    }
-    if t == SPEED {
-        return 2;
-    }
-    if t == SPEED_TYPE {
-        if u == SPEED_TYPE {
-            return 4;
+    match t {
+        POSITION => Some(Kind::Position),
+        SPEED => Some(Kind::Speed),
+        SPEED_TYPE => {
+            if u == SPEED_TYPE {
+                return Some(Kind::ThreeSpeedTypes);
+            }
+            Some(Kind::SpeedType)
         }
-        return 3;
+        LEVEL => Some(Kind::Level),
+        DEGREES => Some(Kind::Degrees),
+        FREQUENCY => Some(Kind::Frequency),
+        CODE_DIGIT => Some(Kind::Code),
+        TRAFFIC_TYPE => Some(Kind::TrafficType),
+        CLEARANCE_TYPE => Some(Kind::ClearanceType),
+        ERROR_INFORMATION => Some(Kind::ErrorInformation),
+        FACILITY_FUNCTION => Some(Kind::FacilityFunction),
+        PROCEDURE => Some(Kind::Procedure),
+        RUNWAY => Some(Kind::Runway),
+        COORDINATES => Some(Kind::Coordinates),
+        FLIGHT_IDENTIFICATION => Some(Kind::DepartureClearance),
+        _ => None,
     }
-    if t == LEVEL {
-        return 5;
-    }
-    if t == DEGREES {
-        return 6;
-    }
-    if t == FREQUENCY {
-        return 7;
-    }
-    if t == CODE_DIGIT {
-        return 8;
-    }
-    if t == TRAFFIC_TYPE {
-        return 9;
-    }
-    if t == CLEARANCE_TYPE {
-        return 10;
-    }
-    if t == ERROR_INFORMATION {
-        return 11;
-    }
-    if t == FACILITY_FUNCTION {
-        return 12;
-    }
-    if t == PROCEDURE {
-        return 13;
-    }
-    if t == RUNWAY {
-        return 14;
-    }
-    if t == COORDINATES {
-        return 15;
-    }
-    if t == FLIGHT_IDENTIFICATION {
-        return 16;
-    }
-    0
 }
 
 // The kind of the argument whose first record is record i.
-pub fn kind_at(words: &[u64], i: usize) -> u64
+pub fn kind_at(words: &[u64], i: usize) -> Option<Kind>
     requires { i < 2 ^ 63 }
-    ensures { result ≡ kind_of (records_from i words.now) }
+    ensures { byte_of result ≡ kind_of (records_from i words.now) }
 {
     let first = record_at(words, i);
     let second = record_at(words, i + 1);
     kind_by(first.tag, second.tag)
 }
 
+#[tactic(auto, unfolding(crate::specs::Agreed::is_last))]
 fn is_last(t: u64) -> bool
     ensures { result ≡ is_last t }
 {
-    if t == ELEMENT_INDEX {
-        return false;
-    }
-    if t == CLEARANCE {
-        return false;
-    }
-    true
+    t != ELEMENT_INDEX && t != CLEARANCE
 }
 
-fn kind_agrees(kind: u64, k: u64, t: u64) -> bool
-    ensures { result ≡ kind_agrees kind k t }
+fn kind_agrees(kind: Option<Kind>, k: Option<Kind>, t: u64) -> bool
+    ensures { result ≡ kind_agrees (byte_of kind) (byte_of k) t }
 {
     if k == kind {
         return true;
     }
-    if k == 0 {
+    if k.is_none() {
         return is_last(t);
     }
     false
 }
 
 // Whether record i, if it begins an element of this index, has an argument of this kind.
-fn one_agrees(words: &[u64], i: usize, index: u64, kind: u64) -> bool
+fn one_agrees(words: &[u64], i: usize, index: u64, kind: Option<Kind>) -> bool
     requires { i < 2 ^ 62 }
-    ensures { result ≡ one_agrees index kind (record_at words.now i) (records_from (i + 1) words.now) }
+    ensures { result ≡ one_agrees index (byte_of kind) (record_at words.now i) (records_from (i + 1) words.now) }
 {
     let x = record_at(words, i);
-    if x.tag == ELEMENT_INDEX {
-        if x.value == index {
-            let next = record_at(words, i + 1);
-            let k = kind_at(words, i + 1);
-            return kind_agrees(kind, k, next.tag);
-        }
-        return true;
+    if x.tag == ELEMENT_INDEX && x.value == index {
+        let next = record_at(words, i + 1);
+        let k = kind_at(words, i + 1);
+        return kind_agrees(kind, k, next.tag);
     }
     true
 }
 
 // The records from i on.
-fn later_agree(words: &[u64], from: usize, index: u64, kind: u64) -> bool
-    ensures { result ≡ later_agree index kind (records_from from words.now) }
+fn later_agree(words: &[u64], from: usize, index: u64, kind: Option<Kind>) -> bool
+    ensures { result ≡ later_agree index (byte_of kind) (records_from from words.now) }
 {
-    let n = records_in(words);
-    let mut i = from;
-    while i < n {
-        if one_agrees(words, i, index, kind) {
-            i += 1;
-        } else {
+    for i in from..records_in(words) {
+        if !one_agrees(words, i, index, kind) {
             return false;
         }
     }
@@ -152,12 +136,8 @@ fn element_agrees(words: &[u64], i: usize) -> bool
 pub fn elements_agree(words: &[u64]) -> bool
     ensures { result ≡ agreed (records_from 0 words.now) }
 {
-    let n = records_in(words);
-    let mut i = 0;
-    while i < n {
-        if element_agrees(words, i) {
-            i += 1;
-        } else {
+    for i in 0..records_in(words) {
+        if !element_agrees(words, i) {
             return false;
         }
     }

@@ -65,10 +65,8 @@ pub fn put_record_text(out: &mut [u8], at: usize, words: &[u64], i: usize) -> us
 {
     let n = text_length(words, i);
     let mut m = at;
-    let mut j = 0;
-    while j < n {
+    for j in 0..n {
         m = put_byte(out, m, character(words, i, j));
-        j += 1;
     }
     m
 }

@@ -1,15 +1,12 @@
-use Rattle.element_kinds.specs.Agreed.{kind_agrees}
-use borrow.Author.Tests.{eq-eqb, ne_eqb}
+use mathlib.Core.Path.{sym}
+use Rattle.element_kinds.proofs.KindLaws.{same-kind, no-kind, other-kind}
 use Rattle.element_kinds.proofs.kind_agrees.Goals as goal
 
-pub returns-then-k-kind : goal.returns-then-k-kind
-unfolding kind_agrees
-returns-then-k-kind c = simp (eq-eqb _ _ c.if-k-kind.true)
+pub returns-then-eq : goal.returns-then-eq
+returns-then-eq c = same-kind c.args.kind c.args.k c.args.t (sym c.if-eq.ensures)
 
-pub returns-then-k-eq0 : goal.returns-then-k-eq0
-unfolding kind_agrees
-returns-then-k-eq0 c = simp (ne_eqb _ _ c.if-k-kind.false, eq-eqb _ _ c.if-k-eq0.true, ← c.is_last.ensures)
+pub returns-then-is_none : goal.returns-then-is_none
+returns-then-is_none c = no-kind c.args.kind c.args.k c.args.t (sym c.if-eq.ensures) c.if-is_none.ensures c.is_last.ensures
 
 pub returns : goal.returns
-unfolding kind_agrees
-returns c = simp (ne_eqb _ _ c.if-k-kind.false, ne_eqb _ _ c.if-k-eq0.false)
+returns c = other-kind c.args.kind c.args.k c.args.t (sym c.if-eq.ensures) c.if-is_none.ensures
