@@ -1,7 +1,7 @@
 -- Lines worked out: what the definitions show for some records. Tags, forms and numbers are those of docs/TAGS.md; the last number of a record is where its field began, which no line shows.
 use mathlib.Core.Path.{◌≡◌, refl}
 use mathlib.Core.List.{List, [], ◌∷◌, ◌++◌}
-use Prim.Native.Nat.{ℕ, ◌+◌}
+use Prim.Native.Nat.{ℕ}
 use Rattle.atn.specs.Reading.{Rec, rec}
 use Rattle.screen_bytes.specs.Text.{bytes, degree_sign}
 use Rattle.screen_numbers.specs.Numbers.{digit, digits, decimal, two_digits, thousandths, magnitude, signed}

@@ -1,6 +1,7 @@
 // All values of a field.
 ghost use Rattle.std.specs.Prelude.{◌<◌};
 
+use element_kinds::Kind;
 use records::emit;
 use screen_bytes::put_byte;
 use screen_elements::put_element_line;
@@ -9,7 +10,7 @@ use std::num::wrapping_add_u64;
 // The lines of an argument of which record `place` has each of `count` values from the lowest on; the other values stay.
 pub fn sweep(
     all: bool,
-    kind: u64,
+    kind: Kind,
     tags: &[u64; 6],
     values: [u64; 6],
     place: usize,
@@ -41,7 +42,7 @@ fn is_shown(all: bool, raw: u64, count: u64) -> bool
     count - raw < 3
 }
 
-fn show(kind: u64, tags: &[u64; 6], values: &[u64; 6]) {
+fn show(kind: Kind, tags: &[u64; 6], values: &[u64; 6]) {
     let mut words = [0u64; 64];
     put_records(&mut words, tags, values);
     let mut line = [0u8; 2048];
@@ -58,8 +59,8 @@ fn put_records(words: &mut [u64], tags: &[u64; 6], values: &[u64; 6]) {
 }
 
 // A phrase that is one bracket; what has no room is not written.
-fn write_line(words: &[u64], kind: u64, line: &mut [u8]) {
-    let m = put_element_line(words, 0, kind, b"[]", line, 0);
+fn write_line(words: &[u64], kind: Kind, line: &mut [u8]) {
+    let m = put_element_line(words, 0, Some(kind), b"[]", line, 0);
     let n = put_byte(line, m, b'\n');
     if n <= line.len() {
         io::write_all(1, &line[..n]);

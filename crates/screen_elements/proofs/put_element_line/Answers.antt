@@ -1,14 +1,12 @@
 use native.Mathlib.Omega.{arith}
-use Rattle.screen_bytes.proofs.Putting.{put-within, put-length}
+use Rattle.screen_bytes.proofs.Putting.{put-within}
 use Rattle.screen_elements.specs.Lines.{element_line}
+use Rattle.screen_elements.proofs.WorkedLines.{as_it_is}
 use Rattle.screen_elements.proofs.put_element_line.Goals as goal
 
-pub put_filled-requires : goal.put_filled-requires
-put_filled-requires c = (omega (arith, c.value_count-n.ensures.1), omega (arith, c.requires.0, c.value_count-n.ensures.1), omega (arith, c.requires.1, c.requires.2, c.value_count-n.ensures.1))
-
-pub returns : goal.returns
+pub returns-in-Some : goal.returns-in-Some
 unfolding element_line
-returns c = rw (← c.value_count-n.ensures.0) (put-within _ (omega (arith, c.value_count-n.ensures.1)) c.put_filled.ensures)
+returns-in-Some c = rw (c.in-Some.is, ← c.value_count-n.ensures.0) (put-within _ (omega (arith, c.value_count-n.ensures.1)) c.put_filled.ensures)
 
-pub shape_of-out : goal.shape_of-out
-shape_of-out c = put-length (returns c)
+pub returns-in-None : goal.returns-in-None
+returns-in-None c = rw (c.in-None.is, as_it_is) (put-within _ (omega arith) c.put_text.ensures)
