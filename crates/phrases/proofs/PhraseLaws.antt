@@ -71,6 +71,10 @@ unfolding phrase_of
 phrase-within zero table = some-within (eqb (length table) 0) (take (place 10 table) table) (omega (arith, length-take (place 10 table) table))
 phrase-within (suc i) table = let h = phrase-within i (drop (place 10 table + 1) table) in omega (arith, h, length-drop (place 10 table + 1) table)
 
+pub line-within : (i : ℕ) (table : List ℕ) → length (line_of table i) ≤ length table
+unfolding line_of
+line-within i table = phrase-within i table
+
 -- what is put of a line is the line
 pub line-of : (table : List ℕ) (i : ℕ) (l : List ℕ) → Some l ≡ phrase_of table i → (l ≡ line_of table i) × (length l ≤ length table)
 unfolding line_of or_nothing

@@ -1,78 +1,70 @@
--- Phrases that were looked for, and whether every element has one.
+-- The two directions, and whether every element has a phrase.
 use mathlib.Core.Bool.{Bool, true, false, cond, ◌&&◌}
-use mathlib.Core.List.{List}
-use mathlib.Core.Option.{Option, none, some}
-use mathlib.Core.Path.{◌≡◌}
-use Prim.Native.Nat.{ℕ, ◌+◌, ◌-◌, ◌≤◌, ◌<◌}
+use mathlib.Core.List.{List, [], ◌∷◌, ◌++◌}
+use mathlib.Core.Path.{◌≡◌, refl, ap, ◌∙◌}
+use Prim.Native.Nat.{ℕ, ◌+◌, ◌≤◌, ◌<◌}
 use native.Mathlib.Numerals.{add-one}
-use native.Mathlib.Omega.{arith}
-use borrow.Author.Tests.{eq-eqb, ne_eqb}
-use lib.ListN.{length, take, drop, length-take, length-drop}
-use Rattle.phrases.specs.declared.Phrase.{Phrase}
-use Rattle.phrases.specs.Found.{Found}
-use Rattle.phrases.specs.Phrases.{or_nothing, line_of}
+use lib.Dec.{eqb}
+use lib.ListN.{length}
+use Rattle.atn.specs.Reading.{Rec}
+use Rattle.atn.specs.Tags as tags
 use Rattle.record_views.specs.View.{count, record_at, records_from, fetched}
 use Rattle.record_views.specs.declared.Record.{Record}
 use Rattle.record_views.proofs.ViewLaws.{from_here, from_end}
-use Rattle.screen_text.specs.Text.{direction, table_of, is_some, one_phrased, phrased, phrase_length}
+use Rattle.screen_text.specs.Text.{direction, table_of, one_phrased, phrased, left_after, record_line, lines}
 
--- there is one
-has_some : (b : Bool) {o : Option (List ℕ)} (l : List ℕ) → o ≡ cond b (some l) none → b ≡ is_some o
-unfolding is_some
-has_some true l e = rw e
-has_some false l e = rw e
+by-tags : (a b : Bool) (v d d' : ℕ) → eqb d 0 ≡ eqb d' 0 → eqb (cond a v (cond b (cond (eqb v 0) 1 0) d)) 0 ≡ eqb (cond a v (cond b (cond (eqb v 0) 1 0) d')) 0
+by-tags true b v d d' e = refl
+by-tags false b v d d' e = elim b as (λ (c : Bool). eqb (cond c (cond (eqb v 0) 1 0) d) 0 ≡ eqb (cond c (cond (eqb v 0) 1 0) d') 0) [ true ↦ refl | false ↦ e ]
 
--- its bytes
-bytes_of : (b : Bool) (t : List ℕ) (from len : ℕ) {o : Option (List ℕ)} → o ≡ cond b (some (take len (drop from t))) none → or_nothing o ≡ take (cond b len 0) (drop from t)
-unfolding or_nothing
-bytes_of true t from len e = rw e
-bytes_of false t from len e = rw e
+-- of a direction's number only whether it is 0 counts
+same-direction : (d d' : ℕ) (x : Record) → eqb d 0 ≡ eqb d' 0 → eqb (direction d x) 0 ≡ eqb (direction d' x) 0
+unfolding direction
+same-direction d d' x e = by-tags (eqb x.tag tags.direction) (eqb x.tag tags.carried_direction) x.value d d' e
 
-pub phrase_bytes : {t : List ℕ} {index : ℕ} {p : Phrase} → Found t index p → line_of t index ≡ take (phrase_length p) (drop p.from t)
-unfolding line_of phrase_length
-phrase_bytes {t} {index} {p} f = bytes_of p.has t p.from p.len f.is
-
--- within the table
-pub phrase_end : {t : List ℕ} {index : ℕ} {p : Phrase} → Found t index p → p.from + phrase_length p ≤ length t
-unfolding phrase_length
-phrase_end {t} {index} {p} f = go p.has
-  where
-    go : (b : Bool) → p.from + cond b p.len 0 ≤ length t
-    go true = f.within
-    go false = omega (arith, f.within)
-
-module _ (t : List ℕ) (x : Record) where
-  pub no_phrase_asked : (x.tag ≡ 22 → ⊥) → true ≡ one_phrased t x
-  unfolding one_phrased
-  no_phrase_asked h = rw (ne_eqb x.tag 22 h)
-
-  pub phrase_there : {p : Phrase} → x.tag ≡ 22 → Found t x.value p → p.has ≡ one_phrased t x
-  unfolding one_phrased
-  phrase_there {p} h f = rw (eq-eqb x.tag 22 h) (has_some p.has (take p.len (drop p.from t)) f.is)
-
--- of the two tables
-module _ (down up : List ℕ) {d : ℕ} where
-  pub of_down : d ≡ 0 → table_of down up d ≡ down
+module _ (down up : List ℕ) where
+  pub same-table : (d d' : ℕ) → eqb d 0 ≡ eqb d' 0 → table_of down up d ≡ table_of down up d'
   unfolding table_of
-  of_down e = rw (eq-eqb d 0 e)
+  same-table d d' e = ap (λ (b : Bool). cond b down up) e
 
-  pub of_up : (d ≡ 0 → ⊥) → table_of down up d ≡ up
+  pub table-short : (d n : ℕ) → length down < n → length up < n → length (table_of down up d) < n
   unfolding table_of
-  of_up e = rw (ne_eqb d 0 e)
+  table-short d n h g = elim (eqb d 0) as (λ (b : Bool). length (cond b down up) < n) [ true ↦ h | false ↦ g ]
+
+  pub same-phrased : (d d' : ℕ) (R : List Rec) → eqb d 0 ≡ eqb d' 0 → phrased down up d R ≡ phrased down up d' R
+  unfolding phrased
+  same-phrased d d' [] e = refl
+  same-phrased d d' (x ∷ R) e =
+      let s : eqb (direction d (fetched x)) 0 ≡ eqb (direction d' (fetched x)) 0 = same-direction d d' (fetched x) e in
+      rw (same-table (direction d (fetched x)) (direction d' (fetched x)) s, same-phrased (direction d (fetched x)) (direction d' (fetched x)) R s) refl
+
+  pub same-lines : (d d' n : ℕ) (R : List Rec) → eqb d 0 ≡ eqb d' 0 → lines down up n d R ≡ lines down up n d' R
+  unfolding lines
+  same-lines d d' n [] e = refl
+  same-lines d d' n (x ∷ R) e =
+      let s : eqb (direction d (fetched x)) 0 ≡ eqb (direction d' (fetched x)) 0 = same-direction d d' (fetched x) e in
+      rw (same-table (direction d (fetched x)) (direction d' (fetched x)) s, same-lines (direction d (fetched x)) (direction d' (fetched x)) (left_after n (fetched x)) R s) refl
 
 -- one record more, and the end
-module _ (down up w : List ℕ) (d : ℕ) where
-  pub phrased-step : (i : ℕ) {x : Record} {d' : ℕ} {b : Bool} → i < count w → x ≡ fetched (record_at w i) → d' ≡ direction d x → b ≡ one_phrased (table_of down up d') x → phrased down up d (records_from i w) ≡ b && phrased down up d' (records_from (i + 1) w)
+module _ (down up w : List ℕ) (d i : ℕ) where
+  pub phrased-step : {x : Record} {table : List ℕ} {b : Bool} (d' : ℕ) → i < count w → x ≡ fetched (record_at w i) → eqb d' 0 ≡ eqb (direction d x) 0 → table ≡ table_of down up d' → b ≡ one_phrased table x → phrased down up d (records_from i w) ≡ b && phrased down up d' (records_from (i + 1) w)
   unfolding phrased
-  phrased-step i h ex ed eb = rw (from_here w i h, eb, ed, ex, add-one)
+  phrased-step {x} {table} {b} d' h ex ed et eb =
+      let t : b ≡ one_phrased (table_of down up (direction d x)) x = eb ∙ ap (λ (z : List ℕ). one_phrased z x) (et ∙ same-table down up d' (direction d x) ed) in
+      let p : phrased down up d' (records_from (i + 1) w) ≡ phrased down up (direction d x) (records_from (i + 1) w) = same-phrased down up d' (direction d x) (records_from (i + 1) w) ed in
+      rw (from_here w i h, t, p, ex, add-one)
 
-  pub phrased-end : (i : ℕ) → count w ≤ i → phrased down up d (records_from i w) ≡ true
+  pub phrased-end : count w ≤ i → phrased down up d (records_from i w) ≡ true
   unfolding phrased
-  phrased-end i h = rw (from_end w i h)
+  phrased-end h = rw (from_end w i h)
 
--- the part of the table that is lent for a phrase: its bytes, and no more than the table has
-pub phrase_part : {t : List ℕ} {index : ℕ} {p : Phrase} {n : ℕ} → Found t index p → n ≡ phrase_length p → line_of t index ≡ take (p.from + n - p.from) (drop p.from t)
-phrase_part {p = p} {n = n} f e = let z : p.from + n - p.from ≡ n = omega arith in rw (z, e) (phrase_bytes f)
+  pub lines-step : {x : Record} {table : List ℕ} (n n' d' : ℕ) → i < count w → x ≡ fetched (record_at w i) → eqb d' 0 ≡ eqb (direction d x) 0 → table ≡ table_of down up d' → n' ≡ left_after n x → lines down up n d (records_from i w) ≡ record_line n table x (records_from (i + 1) w) ++ lines down up n' d' (records_from (i + 1) w)
+  unfolding lines
+  lines-step {x} {table} n n' d' h ex ed et en =
+      let t : table ≡ table_of down up (direction d x) = et ∙ same-table down up d' (direction d x) ed in
+      let p : lines down up n' d' (records_from (i + 1) w) ≡ lines down up n' (direction d x) (records_from (i + 1) w) = same-lines down up d' (direction d x) n' (records_from (i + 1) w) ed in
+      rw (from_here w i h, p, t, en, ex, add-one)
 
-pub part-short : (n k : ℕ) (t : List ℕ) → length (take n (drop k t)) ≤ length t
-part-short n k t = simp (length-take, length-drop) (omega arith)
+  pub lines-end : (n : ℕ) → count w ≤ i → lines down up n d (records_from i w) ≡ []
+  unfolding lines
+  lines-end n h = rw (from_end w i h)

@@ -1,11 +1,12 @@
 -- "From records, a line per element, ended by a line feed".
-use Rattle.std.specs.Prelude.{Bool, true, false, cond, ◌&&◌, List, [], ◌∷◌, ◌++◌, ℕ, ◌-◌, ◌*◌, eqb}
-use Rattle.std.proofs.Math.Option.{Option, none, some}
+use Rattle.std.specs.Prelude.{Bool, true, cond, ◌&&◌, List, [], ◌∷◌, ◌++◌, ℕ, ◌-◌, ◌*◌, eqb}
+use Rattle.std.specs.Option.{is_some}
 use Rattle.atn.specs.Reading.{Rec}
 use Rattle.atn.specs.Tags as tags
 use Rattle.record_views.specs.View.{fetched}
 use Rattle.record_views.specs.declared.Record.{Record}
-use Rattle.phrases.specs.declared.Phrase.{Phrase}
+use Rattle.screen_text.specs.declared.Direction.{Direction}
+use Rattle.screen_text.specs.declared.Direction.TheVariants.{Down, Up}
 use Rattle.phrases.specs.Phrases.{phrase_of, line_of}
 use Rattle.element_kinds.specs.Kinds.{kind_of}
 use Rattle.screen_elements.specs.Lines.{element_line}
@@ -14,15 +15,16 @@ use Rattle.screen_elements.specs.Lines.{element_line}
 unfoldable pub direction : ℕ → Record → ℕ
 direction d x = cond (eqb x.tag tags.direction) x.value (cond (eqb x.tag tags.carried_direction) (cond (eqb x.value 0) 1 0) d)
 
+-- the number of a direction
+abbrev pub number : Direction → ℕ
+number Down = 0
+number Up = 1
+
 -- "a lent byte table per direction"
 unfoldable pub table_of : List ℕ → List ℕ → ℕ → List ℕ
 table_of down up d = cond (eqb d 0) down up
 
 ---------------------------------------------------------------- every element has a phrase
-
-unfoldable pub is_some : Option (List ℕ) → Bool
-is_some none = false
-is_some (some l) = true
 
 unfoldable pub one_phrased : List ℕ → Record → Bool
 one_phrased table x = cond (eqb x.tag tags.element_index) (is_some (phrase_of table x.value)) true
@@ -58,7 +60,3 @@ most = 17592186045441
 
 unfoldable pub cost : ℕ → Record → ℕ
 cost n x = (n - left_after n x) * most
-
--- the bytes of a phrase that was looked for
-unfoldable pub phrase_length : Phrase → ℕ
-phrase_length p = cond p.has p.len 0
