@@ -7,6 +7,7 @@ use native.Mathlib.Omega.{arith}
 use borrow.Author.Tests.{ltb-true, le-leb, lt-leb}
 use lib.Dec.{ltb}
 use lib.ListN.{length, drop}
+use Rattle.std.specs.Prelude.{Ok, Err}
 use Rattle.record_views.specs.View.{records_from}
 use Rattle.record_grammar.specs.Heard.{formed}
 use Rattle.element_kinds.specs.Agreed.{agreed}
@@ -14,7 +15,7 @@ use Rattle.screen_bytes.specs.Put.{Put}
 use Rattle.screen_bytes.proofs.Putting.{puts_nowhere, puts-fits}
 use Rattle.screen_text.specs.Text.{phrased}
 use Rattle.screen.specs.Placed.{placed}
-use Rattle.screen.specs.declared.Screen.TheVariants.{Shown, Refused}
+use Rattle.screen.specs.declared.Refusal.TheVariants.{NotGiven, TooFewBytes}
 use Rattle.screen.specs.Screen.{small, given, text, Outcome, settled, screen_lines}
 
 -- lent no bytes, nothing is written
@@ -25,11 +26,11 @@ module _ {k m : ℕ} {t x : List ℕ} (first : Put k [] x 0 m t) (out : List ℕ
   counted : m ≡ length t
   counted = omega (arith, first.count)
 
-  pub full : length (x ++ out) < m → ◌≡◌ {A = Outcome} (Refused 14 m, x ++ out) (settled t out)
+  pub full : length (x ++ out) < m → ◌≡◌ {A = Outcome} (Err (TooFewBytes m), x ++ out) (settled t out)
   unfolding settled
   full l = let h : length out < m = rw same at l in rw (same, counted, lt-leb (length t) (length out) (rw counted at h))
 
-  pub shown : {j n : ℕ} {out' : List ℕ} → Put j (x ++ out) out' 0 n t → m ≤ length (x ++ out) → ◌≡◌ {A = Outcome} (Shown m, out') (settled t out)
+  pub shown : {j n : ℕ} {out' : List ℕ} → Put j (x ++ out) out' 0 n t → m ≤ length (x ++ out) → ◌≡◌ {A = Outcome} (Ok m, out') (settled t out)
   unfolding settled
   shown {out' = out'} second l =
       let h : length t ≤ length out = rw (same, counted) at l in
@@ -38,7 +39,7 @@ module _ {k m : ℕ} {t x : List ℕ} (first : Put k [] x 0 m t) (out : List ℕ
       rw (counted, e, le-leb (length t) (length out) h)
 
 module _ (w down up out : List ℕ) where
-  pub not-given : given w down up ≡ false → ◌≡◌ {A = Outcome} (Refused 13 0, out) (screen_lines w down up out)
+  pub not-given : given w down up ≡ false → ◌≡◌ {A = Outcome} (Err NotGiven, out) (screen_lines w down up out)
   unfolding screen_lines
   not-given h = rw h
 

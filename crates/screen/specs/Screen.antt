@@ -1,12 +1,17 @@
 -- `screen_lines`: the complete answer, and what the lent bytes hold afterwards.
-use Rattle.std.specs.Prelude.{Bool, cond, ◌&&◌, List, ◌++◌, ℕ, ◌^◌, leb, ltb, length, drop}
+use Rattle.std.specs.Prelude.{Bool, cond, Result, Ok, Err, ◌&&◌, List, ◌++◌, ℕ, ◌^◌, leb, ltb, length, drop}
 use Rattle.record_views.specs.View.{records_from}
 use Rattle.record_grammar.specs.Heard.{formed}
 use Rattle.element_kinds.specs.Agreed.{agreed}
 use Rattle.screen_text.specs.Text.{phrased, lines}
 use Rattle.screen.specs.Placed.{placed}
-use Rattle.screen.specs.declared.Screen.{Screen}
-use Rattle.screen.specs.declared.Screen.TheVariants.{Shown, Refused}
+use Rattle.screen.specs.declared.Refusal.{Refusal}
+use Rattle.screen.specs.declared.Refusal.TheVariants.{NotGiven, TooFewBytes}
+
+-- the number of a refusal, by docs/REFUSALS.md
+abbrev pub number : Refusal → ℕ
+number NotGiven = 13
+number (TooFewBytes need) = 14
 
 -- no reading gives 2^40 words; no machine has 2^44 bytes of phrases, and a table that long is taken for none
 unfoldable pub small : List ℕ → List ℕ → List ℕ → Bool
@@ -22,12 +27,12 @@ text w down up = lines down up 8 0 (records_from 0 w)
 
 -- the answer, and the lent bytes afterwards
 abbrev pub Outcome : Type 0
-Outcome = Screen × List ℕ
+Outcome = Result ℕ Refusal × List ℕ
 
 -- "14, asked after it, text room too small, with the number needed; nothing is written"
 unfoldable pub settled : List ℕ → List ℕ → Outcome
-settled t out = cond (leb (length t) (length out)) (Shown (length t), t ++ drop (length t) out) (Refused 14 (length t), out)
+settled t out = cond (leb (length t) (length out)) (Ok (length t), t ++ drop (length t) out) (Err (TooFewBytes (length t)), out)
 
 -- "13, records that no reading gives, or an element index without a phrase"
 unfoldable pub screen_lines : List ℕ → List ℕ → List ℕ → List ℕ → Outcome
-screen_lines w down up out = cond (given w down up) (settled (text w down up) out) (Refused 13 0, out)
+screen_lines w down up out = cond (given w down up) (settled (text w down up) out) (Err NotGiven, out)

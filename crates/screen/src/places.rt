@@ -33,10 +33,8 @@ fn is_begun(words: &[u64], i: usize, at: u64) -> bool
 pub fn are_placed(words: &[u64]) -> bool
     ensures { result ≡ placed 0 (records_from 0 words.now) }
 {
-    let n = records_in(words);
-    let mut i = 0;
     let mut low = 0;
-    while i < n {
+    for i in 0..records_in(words) {
         let next = place_at(words, i);
         if next < low {
             return false;
@@ -45,7 +43,6 @@ pub fn are_placed(words: &[u64]) -> bool
             return false;
         }
         low = next;
-        i += 1;
     }
     low <= LONGEST
 }

@@ -8,7 +8,7 @@ use line_flow::Flow;
 use line_input::input::next;
 use line_output::output::{Output, put};
 use lines::said::labelled;
-use screen::{Screen, screen_lines};
+use screen::{Refusal, screen_lines};
 use std::io::Stdin;
 
 mod asked; // asked.rt: what a line asks
@@ -128,9 +128,8 @@ fn show(
     requires { output.len ≤ length gathered.old }
     ensures { result.len ≤ length gathered.old }
 {
-    let s = screen_lines(words, down, up, text);
-    match s {
-        Screen::Shown { bytes } => {
+    match screen_lines(words, down, up, text) {
+        Ok(bytes) => {
             let told = labelled(gathered, output, b"shown ", bytes as u64);
             let told = put(gathered, told, b"\n");
             if text.len() < bytes {
@@ -138,10 +137,18 @@ fn show(
             }
             put(gathered, told, &text[..bytes])
         }
-        Screen::Refused { number, need } => {
-            let told = labelled(gathered, output, b"no ", number);
-            let told = labelled(gathered, told, b" ", need as u64);
+        Err(refusal) => {
+            let told = labelled(gathered, output, b"no ", refusal.number());
+            let told = labelled(gathered, told, b" ", bytes_needed(refusal) as u64);
             put(gathered, told, b"\n")
         }
+    }
+}
+
+// 0 where the refusal is not for want of bytes.
+fn bytes_needed(refusal: Refusal) -> usize {
+    match refusal {
+        Refusal::NotGiven => 0,
+        Refusal::TooFewBytes { need } => need,
     }
 }
