@@ -1,5 +1,7 @@
 -- The octets of a word as characters.
 use Rattle.std.specs.Prelude.{Bool, true, false, cond, ◌&&◌, ℕ, zero, suc, ◌-◌, ◌/◌, ◌%◌, leb, ltb, eqb}
+use Rattle.record_grammar.specs.declared.octets.Rule.{Rule}
+use Rattle.record_grammar.specs.declared.octets.Rule.TheVariants.{Ia5, Channel, Digits, Spaced}
 
 -- v is one of `size` numbers from `low` on
 unfoldable pub within : ℕ → ℕ → ℕ → Bool
@@ -8,6 +10,13 @@ within low size v = leb low v && ltb (v - low) size
 -- X.680's character for one that the source has: the digit 0 is the space, each other the one before
 unfoldable pub spaced_one : ℕ → ℕ
 spaced_one a = cond (eqb a 48) 32 (a - 1)
+
+-- the number of a rule
+abbrev pub rule_number : Rule → ℕ
+rule_number Ia5 = 0
+rule_number Channel = 1
+rule_number Digits = 2
+rule_number Spaced = 3
 
 -- a character by a rule: 0 IA5; 1 a raw from 0 to 15 as the source has it; 2 a raw from 0 to 10; 3 X.680's for the octet a of another word
 unfoldable pub octet_fits : ℕ → ℕ → ℕ → Bool

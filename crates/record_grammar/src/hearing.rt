@@ -1,5 +1,5 @@
 // From record to record.
-ghost use Rattle.std.specs.Prelude.{◌≡◌, ◌-◌, ◌≤◌, length};
+ghost use Rattle.std.specs.Prelude.{◌≡◌, ◌≤◌, length};
 ghost use Rattle.record_views.specs.View.{records_from};
 ghost use Rattle.record_grammar.specs.Rows.{resolved, asked, found, left_behind, or_kept, clearance_behind, place_behind, element_behind, row_behind, onward, stepped};
 ghost use Rattle.record_grammar.specs.Heard.{start, heard, formed};
@@ -7,6 +7,9 @@ ghost use Rattle.record_grammar.specs.Heard.{start, heard, formed};
 use super::rows::{does_fit, element_kept, row_at, still_unheard};
 use super::{Row, Walk, table};
 use record_views::{Record, are_whole, record_at, records_in};
+
+// No more rows are asked for a record.
+const MOST_ASKED: u64 = 64;
 
 // Rows 1 and 2 stand for those that the walk keeps.
 fn resolve(s: Walk, k: u64) -> u64
@@ -37,15 +40,13 @@ fn find(rows: &[u64], s: Walk, x: Record) -> u64
     ensures { result ≡ found rows.now 64 s s.at x }
 {
     let mut k = s.at;
-    let mut g: u64 = 64;
-    while 0 < g {
+    for _ in 0..MOST_ASKED {
         let j = resolve(s, k);
         let r = row_at(rows, j);
         if does_fit(r, s, x) {
             return j;
         }
         k = ask(r, s);
-        g -= 1;
     }
     0
 }
@@ -55,18 +56,9 @@ fn left_behind(r: Row, s: Walk, x: Record) -> u64
     ensures { result ≡ left_behind r s x }
 {
     if r.kind == 3 {
-        return less_eight(still_unheard(s, x));
+        return still_unheard(s, x).saturating_sub(8);
     }
     0
-}
-
-fn less_eight(n: u64) -> u64
-    ensures { result ≡ n - 8 }
-{
-    if n < 8 {
-        return 0;
-    }
-    n - 8
 }
 
 fn or_kept(n: u64, kept: u64) -> u64
@@ -131,14 +123,14 @@ fn go_onward(j: u64, r: Row, s: Walk, x: Record) -> Walk
     let clearance = clearance_behind(r, s, x);
     let place = place_behind(r, s, x);
     Walk {
-        at: at,
-        back: back,
-        last: last,
-        element: element,
-        clearance: clearance,
-        place: place,
+        at,
+        back,
+        last,
+        element,
+        clearance,
+        place,
         whole: x.second,
-        left: left,
+        left,
         before: x.value,
         earlier: s.before,
     }
@@ -178,11 +170,9 @@ fn hear(rows: &[u64], words: &[u64]) -> bool
 {
     let n = records_in(words);
     let mut s = begin();
-    let mut i = 0;
-    while i < n {
+    for i in 0..n {
         let x = record_at(words, i);
         s = step(rows, s, x);
-        i += 1;
     }
     let end = record_at(words, n);
     let done = step(rows, s, end);

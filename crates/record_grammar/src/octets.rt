@@ -1,46 +1,52 @@
 // The octets of a word as characters.
-ghost use Rattle.std.specs.Prelude.{◌≡◌, ◌-◌};
-ghost use Rattle.record_grammar.specs.Octets.{within, spaced_one, octet_fits, octet_or, characters_fit};
+ghost use Rattle.std.specs.Prelude.{◌≡◌};
+ghost use Rattle.record_grammar.specs.Octets.{rule_number, within, spaced_one, octet_fits, octet_or, characters_fit};
+
+// The octets of a word.
+const OCTETS: u64 = 8;
+
+// Which characters may stand: IA5; a raw from 0 to 15 or from 0 to 10 as the source has it; X.680's for the octets of another word.
+#[derive(Clone, Copy)]
+pub enum Rule {
+    Ia5,
+    Channel,
+    Digits,
+    Spaced,
+}
 
 // Whether v is one of `size` numbers from `low` on.
+#[tactic(auto, unfolding(crate::specs::Octets::within))]
 pub fn is_within(low: u64, size: u64, v: u64) -> bool
     ensures { result ≡ within low size v }
 {
-    if v < low {
-        return false;
-    }
-    v - low < size
+    low <= v && v - low < size
 }
 
+#[tactic(auto, unfolding(crate::specs::Octets::spaced_one))]
 fn spaced_one(a: u64) -> u64
     ensures { result ≡ spaced_one a }
 {
     if a == 48 {
         return 32;
     }
-    less_one(a)
+    a.saturating_sub(1)
 }
 
-fn octet_fits(rule: u64, a: u64, b: u64) -> bool
-    ensures { result ≡ octet_fits rule a b }
+#[tactic(auto, unfolding(crate::specs::Octets::octet_fits))]
+fn octet_fits(rule: Rule, a: u64, b: u64) -> bool
+    ensures { result ≡ octet_fits (rule_number rule) a b }
 {
-    if rule == 0 {
-        return b < 128;
+    match rule {
+        Rule::Ia5 => b < 128,
+        Rule::Channel => is_within(48, 16, b),
+        Rule::Digits => is_within(48, 11, b),
+        Rule::Spaced => b == spaced_one(a),
     }
-    if rule == 1 {
-        return is_within(48, 16, b);
-    }
-    if rule == 2 {
-        return is_within(48, 11, b);
-    }
-    if rule == 3 {
-        return b == spaced_one(a);
-    }
-    false
 }
 
-fn octet_or(rule: u64, spare: u64, a: u64, b: u64) -> bool
-    ensures { result ≡ octet_or rule spare a b }
+#[tactic(auto, unfolding(crate::specs::Octets::octet_or))]
+fn octet_or(rule: Rule, spare: u64, a: u64, b: u64) -> bool
+    ensures { result ≡ octet_or (rule_number rule) spare a b }
 {
     if spare == 0 {
         return octet_fits(rule, a, b);
@@ -49,39 +55,19 @@ fn octet_or(rule: u64, spare: u64, a: u64, b: u64) -> bool
 }
 
 // Whether v begins with n characters, at most 8, and has no more.
-pub fn characters_fit(rule: u64, n: u64, u: u64, v: u64) -> bool
-    ensures { result ≡ characters_fit rule n u v }
+pub fn characters_fit(rule: Rule, n: u64, u: u64, v: u64) -> bool
+    ensures { result ≡ characters_fit (rule_number rule) n u v }
 {
-    let mut spare = missing(n);
+    let mut spare = OCTETS.saturating_sub(n);
     let mut a = u;
     let mut b = v;
-    let mut k: u64 = 8;
-    while 0 < k {
+    for _ in 0..OCTETS {
         if !octet_or(rule, spare, a % 256, b % 256) {
             return false;
         }
-        spare = less_one(spare);
-        a = a / 256;
-        b = b / 256;
-        k -= 1;
+        spare = spare.saturating_sub(1);
+        a /= 256;
+        b /= 256;
     }
     true
-}
-
-fn less_one(n: u64) -> u64
-    ensures { result ≡ n - 1 }
-{
-    if n == 0 {
-        return 0;
-    }
-    n - 1
-}
-
-fn missing(n: u64) -> u64
-    ensures { result ≡ 8 - n }
-{
-    if 8 < n {
-        return 0;
-    }
-    8 - n
 }

@@ -1,8 +1,9 @@
 // Rows of eight numbers, and which records one takes.
 ghost use Rattle.std.specs.Prelude.{◌≡◌, ◌≤◌, ◌<◌, length};
+ghost use Rattle.record_grammar.specs.Octets.{rule_number};
 ghost use Rattle.record_grammar.specs.Rows.{row_word, row_at, numbered, unheard, length_fits, lettered, spanned, counted, channelled, all_digits, noted, holds, element_kept, element_fits, fits};
 
-use super::octets::{characters_fit, is_within};
+use super::octets::{Rule, characters_fit, is_within};
 use super::{Row, Walk};
 use record_views::Record;
 
@@ -33,14 +34,14 @@ pub fn row_at(rows: &[u64], k: u64) -> Row
     let back = row_word(rows, k, 6);
     let last = row_word(rows, k, 7);
     Row {
-        tag: tag,
-        kind: kind,
-        low: low,
-        size: size,
-        next: next,
-        otherwise: otherwise,
-        back: back,
-        last: last,
+        tag,
+        kind,
+        low,
+        size,
+        next,
+        otherwise,
+        back,
+        last,
     }
 }
 
@@ -80,7 +81,7 @@ fn is_lettered(r: Row, s: Walk, x: Record) -> bool
     ensures { result ≡ lettered r s x }
 {
     if length_fits(r, s, x) {
-        return characters_fit(0, still_unheard(s, x), 0, x.value);
+        return characters_fit(Rule::Ia5, still_unheard(s, x), 0, x.value);
     }
     false
 }
@@ -111,8 +112,8 @@ fn is_counted(n: u64, r: Row, x: Record) -> bool
     false
 }
 
-fn is_channelled(rule: u64, r: Row, s: Walk, x: Record) -> bool
-    ensures { result ≡ channelled rule r s x }
+fn is_channelled(rule: Rule, r: Row, s: Walk, x: Record) -> bool
+    ensures { result ≡ channelled (rule_number rule) r s x }
 {
     if x.second == 12 {
         return characters_fit(rule, r.low, s.earlier, x.value);
@@ -123,8 +124,8 @@ fn is_channelled(rule: u64, r: Row, s: Walk, x: Record) -> bool
 fn is_all_digits(r: Row, s: Walk, x: Record) -> bool
     ensures { result ≡ all_digits r s x }
 {
-    if is_channelled(2, r, s, x) {
-        return characters_fit(2, 8, 0, s.before);
+    if is_channelled(Rule::Digits, r, s, x) {
+        return characters_fit(Rule::Digits, 8, 0, s.before);
     }
     false
 }
@@ -167,13 +168,13 @@ fn does_hold(r: Row, s: Walk, x: Record) -> bool
         return is_counted(s.place, r, x);
     }
     if r.kind == 8 {
-        return is_channelled(1, r, s, x);
+        return is_channelled(Rule::Channel, r, s, x);
     }
     if r.kind == 9 {
         return is_all_digits(r, s, x);
     }
     if r.kind == 10 {
-        return is_channelled(3, r, s, x);
+        return is_channelled(Rule::Spaced, r, s, x);
     }
     if r.kind == 11 {
         return is_noted(r, x);

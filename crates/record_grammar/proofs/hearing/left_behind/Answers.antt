@@ -4,7 +4,7 @@ use Rattle.record_grammar.proofs.hearing.left_behind.Goals as goal
 
 pub returns-then-r-eq3 : goal.returns-then-r-eq3
 unfolding left_behind
-returns-then-r-eq3 c = simp (eq-eqb _ _ c.if-r-eq3.true, ← c.still_unheard.ensures, ← c.less_eight.ensures)
+returns-then-r-eq3 c = simp (eq-eqb _ _ c.if-r-eq3.true, ← c.still_unheard.ensures, ← c.saturating_sub.ensures)
 
 pub returns : goal.returns
 unfolding left_behind
