@@ -1,5 +1,7 @@
 -- The kinds of rows: what the value and the second number of a record may be. Two numbers say of which range, or how much.
-use Rattle.std.specs.Prelude.{ℕ}
+use Rattle.std.specs.Prelude.{◌≡◌, ◌≤◌, ℕ, Option, MatchOption}
+use Rattle.record_grammar.specs.declared.Kind.{Kind}
+use Rattle.record_grammar.specs.declared.Kind.TheVariants.{Number, Reason, Release, Text, Span, Index, Clearance, Place, Channel, Digits, Spaced, Note}
 
 -- a number of a range; second number 0
 abbrev pub number : ℕ
@@ -48,3 +50,23 @@ spaced = 10
 -- these two numbers
 abbrev pub note : ℕ
 note = 11
+
+---------------------------------------------------------------- the same as variants
+
+abbrev pub number_of : Kind → ℕ
+number_of Number = number
+number_of Reason = reason
+number_of Release = release
+number_of Text = text
+number_of Span = span
+number_of Index = index
+number_of Clearance = clearance
+number_of Place = place
+number_of Channel = channel
+number_of Digits = digits
+number_of Spaced = spaced
+number_of Note = note
+
+-- a number of the table and its kind; from 12 on there is none
+abbrev pub Numbered : ℕ → Option Kind → Type 0
+Numbered n o = MatchOption o (12 ≤ n) (λ k. n ≡ number_of k)

@@ -5,7 +5,7 @@ ghost use Rattle.record_grammar.specs.Rows.{resolved, asked, found, left_behind,
 ghost use Rattle.record_grammar.specs.Heard.{start, heard, formed};
 
 use super::rows::{does_fit, element_kept, row_at, still_unheard};
-use super::{Row, Walk, table};
+use super::{Kind, Row, Walk, table};
 use record_views::{Record, are_whole, record_at, records_in};
 
 // No more rows are asked for a record.
@@ -52,10 +52,11 @@ fn find(rows: &[u64], s: Walk, x: Record) -> u64
 }
 
 // The characters that are left behind x.
+#[tactic(auto, unfolding(crate::specs::Rows::left_behind))]
 fn left_behind(r: Row, s: Walk, x: Record) -> u64
     ensures { result ≡ left_behind r s x }
 {
-    if r.kind == 3 {
+    if r.is(Kind::Text) {
         return still_unheard(s, x).saturating_sub(8);
     }
     0
@@ -70,32 +71,35 @@ fn or_kept(n: u64, kept: u64) -> u64
     n
 }
 
+#[tactic(auto, unfolding(crate::specs::Rows::element_behind))]
 fn element_behind(r: Row, s: Walk, x: Record) -> u64
     ensures { result ≡ element_behind r s x }
 {
-    if r.kind == 5 {
+    if r.is(Kind::Index) {
         return x.element;
     }
-    element_kept(r.kind, s.element)
+    element_kept(r, s.element)
 }
 
+#[tactic(auto, unfolding(crate::specs::Rows::clearance_behind))]
 fn clearance_behind(r: Row, s: Walk, x: Record) -> u64
     ensures { result ≡ clearance_behind r s x }
 {
-    if r.kind == 6 {
+    if r.is(Kind::Clearance) {
         return x.value;
     }
     s.clearance
 }
 
 // Places are counted anew in each clearance.
+#[tactic(auto, unfolding(crate::specs::Rows::place_behind))]
 fn place_behind(r: Row, s: Walk, x: Record) -> u64
     ensures { result ≡ place_behind r s x }
 {
-    if r.kind == 7 {
+    if r.is(Kind::Place) {
         return x.value;
     }
-    if r.kind == 6 {
+    if r.is(Kind::Clearance) {
         return 0;
     }
     s.place

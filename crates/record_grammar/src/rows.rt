@@ -4,7 +4,7 @@ ghost use Rattle.record_grammar.specs.Octets.{rule_number};
 ghost use Rattle.record_grammar.specs.Rows.{row_word, row_at, numbered, unheard, length_fits, lettered, spanned, counted, channelled, all_digits, noted, holds, element_kept, element_fits, fits};
 
 use super::octets::{Rule, characters_fit, is_within};
-use super::{Row, Walk};
+use super::{Kind, Row, Walk};
 use record_views::Record;
 
 // Number j of row k, 0 where the rows have none.
@@ -140,74 +140,49 @@ fn is_noted(r: Row, x: Record) -> bool
 }
 
 // What the record holds, by the kind of the row.
+#[tactic(auto, unfolding(crate::specs::Rows::holds))]
 fn does_hold(r: Row, s: Walk, x: Record) -> bool
     ensures { result ≡ holds r s x }
 {
-    if r.kind == 0 {
-        return is_numbered(0, r, x);
+    match r.kind() {
+        Some(Kind::Number) => is_numbered(0, r, x),
+        Some(Kind::Reason) => is_numbered(1, r, x),
+        Some(Kind::Release) => is_numbered(2, r, x),
+        Some(Kind::Text) => is_lettered(r, s, x),
+        Some(Kind::Span) => is_spanned(r, x),
+        Some(Kind::Index) => is_numbered(0, r, x),
+        Some(Kind::Clearance) => is_counted(s.clearance, r, x),
+        Some(Kind::Place) => is_counted(s.place, r, x),
+        Some(Kind::Channel) => is_channelled(Rule::Channel, r, s, x),
+        Some(Kind::Digits) => is_all_digits(r, s, x),
+        Some(Kind::Spaced) => is_channelled(Rule::Spaced, r, s, x),
+        Some(Kind::Note) => is_noted(r, x),
+        None => false,
     }
-    if r.kind == 1 {
-        return is_numbered(1, r, x);
-    }
-    if r.kind == 2 {
-        return is_numbered(2, r, x);
-    }
-    if r.kind == 3 {
-        return is_lettered(r, s, x);
-    }
-    if r.kind == 4 {
-        return is_spanned(r, x);
-    }
-    if r.kind == 5 {
-        return is_numbered(0, r, x);
-    }
-    if r.kind == 6 {
-        return is_counted(s.clearance, r, x);
-    }
-    if r.kind == 7 {
-        return is_counted(s.place, r, x);
-    }
-    if r.kind == 8 {
-        return is_channelled(Rule::Channel, r, s, x);
-    }
-    if r.kind == 9 {
-        return is_all_digits(r, s, x);
-    }
-    if r.kind == 10 {
-        return is_channelled(Rule::Spaced, r, s, x);
-    }
-    if r.kind == 11 {
-        return is_noted(r, x);
-    }
-    false
 }
 
-// The element number behind a record of this kind that begins no element.
-pub fn element_kept(kind: u64, element: u64) -> u64
-    ensures { result ≡ element_kept kind element }
+// The element number behind a row's record that begins no element.
+#[tactic(auto, unfolding(crate::specs::Rows::element_kept))]
+pub fn element_kept(r: Row, element: u64) -> u64
+    ensures { result ≡ element_kept r.kind element }
 {
-    if kind == 4 {
-        return 0;
-    }
-    if kind == 6 {
-        return 0;
-    }
-    if kind == 11 {
+    if r.is(Kind::Span) || r.is(Kind::Clearance) || r.is(Kind::Note) {
         return 0;
     }
     element
 }
 
+#[tactic(auto, unfolding(crate::specs::Rows::element_fits))]
 fn element_fits(r: Row, s: Walk, x: Record) -> bool
     ensures { result ≡ element_fits r s x }
 {
-    if r.kind == 5 {
+    if r.is(Kind::Index) {
         if s.element < 8 {
             return x.element == s.element + 1;
         }
         return false;
     }
-    x.element == element_kept(r.kind, s.element)
+    x.element == element_kept(r, s.element)
 }
 
 // Whether the record is this row's.
