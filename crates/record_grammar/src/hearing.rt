@@ -12,6 +12,7 @@ use record_views::{Record, are_whole, record_at, records_in};
 const MOST_ASKED: u64 = 64;
 
 // Rows 1 and 2 stand for those that the walk keeps.
+#[tactic(auto, unfolding(crate::specs::Rows::resolved))]
 fn resolve(s: Walk, k: u64) -> u64
     ensures { result ≡ resolved s k }
 {
@@ -25,6 +26,7 @@ fn resolve(s: Walk, k: u64) -> u64
 }
 
 // The row that is asked next.
+#[tactic(auto, unfolding(crate::specs::Rows::asked))]
 fn ask(r: Row, s: Walk) -> u64
     ensures { result ≡ asked r s }
 {
@@ -62,6 +64,7 @@ fn left_behind(r: Row, s: Walk, x: Record) -> u64
     0
 }
 
+#[tactic(auto, unfolding(crate::specs::Rows::or_kept))]
 fn or_kept(n: u64, kept: u64) -> u64
     ensures { result ≡ or_kept n kept }
 {
@@ -106,6 +109,7 @@ fn place_behind(r: Row, s: Walk, x: Record) -> u64
 }
 
 // Within a text the row stays.
+#[tactic(auto, unfolding(crate::specs::Rows::row_behind))]
 fn row_behind(left: u64, j: u64, next: u64) -> u64
     ensures { result ≡ row_behind left j next }
 {
@@ -116,6 +120,7 @@ fn row_behind(left: u64, j: u64, next: u64) -> u64
 }
 
 // Where the walk stands behind x, which row j took.
+#[tactic(auto, unfolding(crate::specs::Rows::onward))]
 fn go_onward(j: u64, r: Row, s: Walk, x: Record) -> Walk
     ensures { result ≡ onward j r s x }
 {
@@ -141,6 +146,7 @@ fn go_onward(j: u64, r: Row, s: Walk, x: Record) -> Walk
 }
 
 // One record.
+#[tactic(auto, unfolding(crate::specs::Rows::stepped))]
 fn step(rows: &[u64], s: Walk, x: Record) -> Walk
     requires { length rows.now ≤ 8000000 }
     ensures { result ≡ stepped rows.now s x }
@@ -150,6 +156,7 @@ fn step(rows: &[u64], s: Walk, x: Record) -> Walk
     go_onward(j, r, s, x)
 }
 
+#[tactic(auto, unfolding(crate::specs::Heard::start))]
 fn begin() -> Walk
     ensures { result ≡ start }
 {

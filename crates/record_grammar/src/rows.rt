@@ -46,16 +46,14 @@ pub fn row_at(rows: &[u64], k: u64) -> Row
 }
 
 // A number; where the second number is not 0 it is at most `most`, and the value 0.
+#[tactic(auto, unfolding(crate::specs::Rows::numbered))]
 fn is_numbered(most: u64, r: Row, x: Record) -> bool
     ensures { result ≡ numbered most r x }
 {
     if x.second == 0 {
         return is_within(r.low, r.size, x.value);
     }
-    if x.second <= most {
-        return x.value == 0;
-    }
-    false
+    x.second <= most && x.value == 0
 }
 
 // The characters that are left, this record's included.
@@ -77,13 +75,11 @@ fn length_fits(r: Row, s: Walk, x: Record) -> bool
     x.second == s.whole
 }
 
+#[tactic(auto, unfolding(crate::specs::Rows::lettered))]
 fn is_lettered(r: Row, s: Walk, x: Record) -> bool
     ensures { result ≡ lettered r s x }
 {
-    if length_fits(r, s, x) {
-        return characters_fit(Rule::Ia5, still_unheard(s, x), 0, x.value);
-    }
-    false
+    length_fits(r, s, x) && characters_fit(Rule::Ia5, still_unheard(s, x), 0, x.value)
 }
 
 // A span ends within the longest frame.
@@ -100,43 +96,32 @@ fn is_spanned(r: Row, x: Record) -> bool
 }
 
 // The number behind n.
+#[tactic(auto, unfolding(crate::specs::Rows::counted))]
 fn is_counted(n: u64, r: Row, x: Record) -> bool
     ensures { result ≡ counted n r x }
 {
-    if x.second == 0 {
-        if n < r.size {
-            return x.value == n + 1;
-        }
-        return false;
-    }
-    false
+    x.second == 0 && n < r.size && x.value == n + 1
 }
 
+#[tactic(auto, unfolding(crate::specs::Rows::channelled))]
 fn is_channelled(rule: Rule, r: Row, s: Walk, x: Record) -> bool
     ensures { result ≡ channelled (rule_number rule) r s x }
 {
-    if x.second == 12 {
-        return characters_fit(rule, r.low, s.earlier, x.value);
-    }
-    false
+    x.second == 12 && characters_fit(rule, r.low, s.earlier, x.value)
 }
 
+#[tactic(auto, unfolding(crate::specs::Rows::all_digits))]
 fn is_all_digits(r: Row, s: Walk, x: Record) -> bool
     ensures { result ≡ all_digits r s x }
 {
-    if is_channelled(Rule::Digits, r, s, x) {
-        return characters_fit(Rule::Digits, 8, 0, s.before);
-    }
-    false
+    is_channelled(Rule::Digits, r, s, x) && characters_fit(Rule::Digits, 8, 0, s.before)
 }
 
+#[tactic(auto, unfolding(crate::specs::Rows::noted))]
 fn is_noted(r: Row, x: Record) -> bool
     ensures { result ≡ noted r x }
 {
-    if x.value == r.low {
-        return x.second == r.size;
-    }
-    false
+    x.value == r.low && x.second == r.size
 }
 
 // What the record holds, by the kind of the row.
@@ -186,14 +171,9 @@ fn element_fits(r: Row, s: Walk, x: Record) -> bool
 }
 
 // Whether the record is this row's.
+#[tactic(auto, unfolding(crate::specs::Rows::fits))]
 pub fn does_fit(r: Row, s: Walk, x: Record) -> bool
     ensures { result ≡ fits r s x }
 {
-    if x.tag == r.tag {
-        if element_fits(r, s, x) {
-            return does_hold(r, s, x);
-        }
-        return false;
-    }
-    false
+    x.tag == r.tag && element_fits(r, s, x) && does_hold(r, s, x)
 }
