@@ -1,18 +1,13 @@
 -- The number of 64 bits that a text in decimal stands for.
-use Rattle.std.specs.Prelude.{◌≡◌, cond, List, [], ◌∷◌, ℕ, ◌+◌, ◌*◌, ◌-◌, ◌^◌, ltb}
-use Rattle.std.proofs.Math.Option.{Option, none, some}
-use Rattle.decimal.specs.declared.Numeral.{Numeral}
+use Rattle.std.specs.Prelude.{cond, List, [], ◌∷◌, ℕ, ◌+◌, ◌*◌, ◌-◌, ◌^◌, ltb, Option, Some, None}
 
 -- the number that starts as n and goes on with the digits of a text; none at another character, and where it has no 64 bits
 unfoldable pub onward : ℕ → List ℕ → Option ℕ
-onward n [] = some n
-onward n (c ∷ t) = cond (ltb c 48) none (cond (ltb c 58) (cond (ltb (n * 10 + (c - 48)) (2 ^ 64)) (onward (n * 10 + (c - 48)) t) none) none)
+onward n [] = Some n
+onward n (c ∷ t) = cond (ltb c 48) None (cond (ltb c 58) (cond (ltb (n * 10 + (c - 48)) (2 ^ 64)) (onward (n * 10 + (c - 48)) t) None) None)
 
 -- one digit at least
 unfoldable pub numeral : List ℕ → Option ℕ
 unfolding onward
-numeral [] = none
+numeral [] = None
 numeral (c ∷ t) = onward 0 (c ∷ t)
-
-pub record Reads (text : List ℕ) (r : Numeral) : Type 0 where
-  pub is : numeral text ≡ cond r.good (some r.value) none

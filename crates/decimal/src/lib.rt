@@ -1,56 +1,29 @@
 // A number in decimal.
 #![tactic(auto)]
 
-ghost use Rattle.std.specs.Prelude.{false, ◌≡◌};
-ghost use Rattle.decimal.specs.Decimal.{Reads};
+ghost use Rattle.std.specs.Prelude.{◌≡◌, [], ◌∷◌};
+ghost use Rattle.decimal.specs.Decimal.{onward, numeral};
 
-// Whether a text is a number of 64 bits, and which; 0 where it is not.
-#[derive(Clone, Copy)]
-pub struct Numeral {
-    pub good: bool,
-    pub value: u64,
-}
-
-pub fn number(text: &[u8]) -> Numeral
-    ensures { Reads text.now result }
+// The number of 64 bits that a text stands for.
+pub fn number(text: &[u8]) -> Option<u64>
+    ensures { result ≡ numeral text.now }
 {
-    if text.len() == 0 {
-        return bad();
+    if text.is_empty() {
+        return None;
     }
     let mut value = 0;
-    let mut i = 0;
-    while i < text.len() {
-        let c = text[i];
-        if c < b'0' {
-            return bad();
-        }
-        if b'9' < c {
-            return bad();
-        }
-        let d = wide(c) - 48;
-        if (u64::MAX - d) / 10 < value {
-            return bad();
-        }
-        value = value * 10 + d;
-        i += 1;
+    for &c in text {
+        value = with_digit(value, c)?;
     }
-    Numeral {
-        good: true,
-        value: value,
-    }
+    Some(value)
 }
 
-fn bad() -> Numeral
-    ensures { result ≡ record { good = false; value = 0 } }
+// The number n with a digit more.
+fn with_digit(n: u64, c: u8) -> Option<u64>
+    ensures { result ≡ onward n (c ∷ []) }
 {
-    Numeral {
-        good: false,
-        value: 0,
+    if !c.is_ascii_digit() {
+        return None;
     }
-}
-
-fn wide(c: u8) -> u64
-    ensures { result ≡ c }
-{
-    c as u64
+    n.checked_mul(10)?.checked_add(u64::from(c - b'0'))
 }

@@ -2,7 +2,6 @@
 use mathlib.Core.Path.{◌≡◌, refl, ◌∙◌}
 use mathlib.Core.Bool.{Bool, true, false, cond}
 use mathlib.Core.List.{List, [], ◌∷◌, ◌++◌}
-use mathlib.Core.Option.{none, some}
 use Prim.Native.Nat.{ℕ, zero, suc, ◌+◌, ◌*◌, ◌/◌, ◌%◌, ◌-◌, ◌^◌, ◌≤◌, ◌<◌}
 use native.Mathlib.Nat.{pow-suc}
 use native.Mathlib.Decide.{dec_le}
@@ -10,19 +9,20 @@ use native.Mathlib.Omega.{arith}
 use lib.Dec.{ltb, eqb}
 use lib.ListN.{length, length-append}
 use borrow.Author.Tests.{lt-ltb, le-ltb, ne_eqb}
+use Rattle.std.specs.Prelude.{None, Some}
 use Rattle.decimal.specs.Decimal.{onward, numeral}
 use Rattle.decimal.proofs.DecimalLaws.{some-text}
 use Rattle.screen_numbers.specs.Numbers.{digit, digits, decimal, hundredths, thousandths}
 use Rattle.screen_promises.specs.Unpointed.{point, unpointed}
 
 -- a text that is read as far as y goes on from there
-onward-append : (n : ℕ) (t u : List ℕ) {y : ℕ} → onward n t ≡ some y → onward n (t ++ u) ≡ onward y u
+onward-append : (n : ℕ) (t u : List ℕ) {y : ℕ} → onward n t ≡ Some y → onward n (t ++ u) ≡ onward y u
 unfolding onward
 onward-append n [] u {y} e = let h : n ≡ y = cc in rw h
 onward-append n (c ∷ t) u {y} e = go (ltb c 48) (ltb c 58) (ltb (n * 10 + (c - 48)) (2 ^ 64)) (λ h. onward-append (n * 10 + (c - 48)) t u h) e
   where
-    go : (a b d : Bool) → (onward (n * 10 + (c - 48)) t ≡ some y → onward (n * 10 + (c - 48)) (t ++ u) ≡ onward y u)
-        → cond a none (cond b (cond d (onward (n * 10 + (c - 48)) t) none) none) ≡ some y → cond a none (cond b (cond d (onward (n * 10 + (c - 48)) (t ++ u)) none) none) ≡ onward y u
+    go : (a b d : Bool) → (onward (n * 10 + (c - 48)) t ≡ Some y → onward (n * 10 + (c - 48)) (t ++ u) ≡ onward y u)
+        → cond a None (cond b (cond d (onward (n * 10 + (c - 48)) t) None) None) ≡ Some y → cond a None (cond b (cond d (onward (n * 10 + (c - 48)) (t ++ u)) None) None) ≡ onward y u
     go true b d f h = absurd (let z : ◌≡◌ {A = ℕ} 0 1 = cc in omega arith)
     go false false d f h = absurd (let z : ◌≡◌ {A = ℕ} 0 1 = cc in omega arith)
     go false true false f h = absurd (let z : ◌≡◌ {A = ℕ} 0 1 = cc in omega arith)
@@ -35,12 +35,12 @@ one_more y x t h =
     let e : 48 + x % 10 - 48 ≡ x % 10 = omega arith in
     rw (le-ltb (48 + x % 10) 48 (omega arith), lt-ltb (48 + x % 10) 58 (omega arith), e, lt-ltb (y * 10 + x % 10) (2 ^ 64) h)
 
-digits_back : (k x : ℕ) → x < 10 ^ k → x < 2 ^ 64 → onward 0 (digits k x) ≡ some x
+digits_back : (k x : ℕ) → x < 10 ^ k → x < 2 ^ 64 → onward 0 (digits k x) ≡ Some x
 unfolding digits onward
 digits_back zero x p q = let e : x ≡ 0 = omega arith in rw e
 digits_back (suc k) x p q = go (dec_le 10 x) (digits_back k (x / 10) (omega (arith, pow-suc 10 k)) (omega arith))
   where
-    go : Dec (10 ≤ x) → onward 0 (digits k (x / 10)) ≡ some (x / 10) → onward 0 (digits (suc k) x) ≡ some x
+    go : Dec (10 ≤ x) → onward 0 (digits k (x / 10)) ≡ Some (x / 10) → onward 0 (digits (suc k) x) ≡ Some x
     go (yes h) r =
         let e : x / 10 * 10 + x % 10 ≡ x = omega arith in
         let f : x / 10 * 10 + x % 10 < 2 ^ 64 = omega arith in
@@ -59,7 +59,7 @@ some-digit k x = go (ltb x 10)
     go false = omega (arith, length-append (digits k (x / 10)) (digit x ∷ []))
 
 -- every number of 64 bits
-pub decimal_back : (x : ℕ) → x < 2 ^ 64 → numeral (decimal x) ≡ some x
+pub decimal_back : (x : ℕ) → x < 2 ^ 64 → numeral (decimal x) ≡ Some x
 unfolding decimal
 decimal_back x h = some-text (digits 20 x) (some-digit 19 x) ∙ digits_back 20 x (omega arith) h
 
@@ -102,7 +102,7 @@ behind x t h =
     (some-text (digits 20 x ++ unpointed t) (omega (arith, some-digit 19 x, length-append (digits 20 x) (unpointed t)))
     ∙ onward-append 0 (digits 20 x) (unpointed t) (digits_back 20 x (omega arith) h))
 
-read : (x : ℕ) → onward x [] ≡ some x
+read : (x : ℕ) → onward x [] ≡ Some x
 unfolding onward
 read x = refl
 
@@ -117,16 +117,16 @@ module _ (x : ℕ) (h : x < 2 ^ 64) where
   third : x / 1000 * 10 + x / 100 % 10 ≡ x / 100
   third = omega arith
 
-  two : onward (x / 100) (digit (x / 10) ∷ digit x ∷ []) ≡ some x
+  two : onward (x / 100) (digit (x / 10) ∷ digit x ∷ []) ≡ Some x
   two = one_more (x / 100) (x / 10) (digit x ∷ []) (omega arith) ∙ rw second (one_more (x / 10) x [] (omega arith) ∙ rw last (read x))
 
-  pub hundredths_back : numeral (unpointed (hundredths x)) ≡ some x
+  pub hundredths_back : numeral (unpointed (hundredths x)) ≡ Some x
   unfolding hundredths
   hundredths_back =
       behind (x / 100) (46 ∷ digit (x / 10) ∷ digit x ∷ []) (omega arith)
       ∙ rw (no_point (digit (x / 10) ∷ digit x ∷ []), unpointed-digit (x / 10) (digit x ∷ []), unpointed-digit x [], end) two
 
-  pub thousandths_back : numeral (unpointed (thousandths x)) ≡ some x
+  pub thousandths_back : numeral (unpointed (thousandths x)) ≡ Some x
   unfolding thousandths
   thousandths_back =
       behind (x / 1000) (46 ∷ digit (x / 100) ∷ digit (x / 10) ∷ digit x ∷ []) (omega arith)

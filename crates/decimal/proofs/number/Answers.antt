@@ -1,28 +1,18 @@
-use mathlib.Core.Path.{◌∙◌, sym, ap}
-use Prim.Native.Nat.{ℕ, ◌+◌, ◌*◌, ◌-◌}
-use lib.ListN.{drop}
-use borrow.Author.Rules.{rules}
-use Rattle.decimal.specs.Decimal.{onward}
-use Rattle.decimal.proofs.DecimalLaws.{some-text, no_text, turn, below, above, large, all}
+use Rattle.std.proofs.Common.{sym, ◌∙◌, arith, true-eqb, false-eqb}
+use Rattle.decimal.proofs.DecimalLaws.{some-text, no_text, goes_on, stops, all}
 use Rattle.decimal.proofs.number.Goals as goal
 
-pub returns-then-text-eq0 : goal.returns-then-text-eq0
-returns-then-text-eq0 c = record { is = rw c.bad.ensures (no_text c.args.text.now c.if-text-eq0.true) }
+pub returns-then-is_empty : goal.returns-then-is_empty
+returns-then-is_empty c = sym (no_text c.args.text.now (true-eqb _ _ c.if-is_empty.ensures))
 
-pub loop-i-init : goal.loop-i-init
-loop-i-init c = (search rules, search rules, some-text c.args.text.now (search rules))
+pub loop-c-init : goal.loop-c-init
+loop-c-init c = some-text c.args.text.now (omega (arith, false-eqb _ 0 c.if-is_empty.ensures))
 
-pub returns-then-c-lt48 : goal.returns-then-c-lt48
-returns-then-c-lt48 c = record { is = rw c.bad-then-c-lt48.ensures (c.loop-i.invariant.2 ∙ below c.args.text.now c.loop-i.i c.loop-i.value c.loop-i-test.true c.if-c-lt48.true) }
+pub returns-in_err-value : goal.returns-in_err-value
+returns-in_err-value c = c.from_residual.ensures ∙ sym (c.loop-c.invariant ∙ stops c.args.text.now c.loop-c.c-index c.loop-c.value c.loop-c-test.true c.in_err-value.ensures)
 
-pub returns-then-c-gt57 : goal.returns-then-c-gt57
-returns-then-c-gt57 c = record { is = rw c.bad-then-c-gt57.ensures (c.loop-i.invariant.2 ∙ above c.args.text.now c.loop-i.i c.loop-i.value c.loop-i-test.true (search rules)) }
-
-pub returns-then-d-value : goal.returns-then-d-value
-returns-then-d-value c = record { is = rw c.bad-then-d-value.ensures (c.loop-i.invariant.2 ∙ large c.args.text.now c.loop-i.i c.loop-i.value c.loop-i-test.true c.if-c-lt48.false (search rules) (search rules)) }
-
-pub loop-i-preserved : goal.loop-i-preserved
-loop-i-preserved c = (search rules, search rules, c.loop-i.invariant.2 ∙ turn c.args.text.now c.loop-i.i c.loop-i.value c.loop-i-test.true c.if-c-lt48.false (search rules) (search rules) ∙ ap (λ (d : ℕ). onward (c.loop-i.value * 10 + (d - 48)) (drop (c.loop-i.i + 1) c.args.text.now)) (sym c.wide-d.ensures))
+pub loop-c-preserved : goal.loop-c-preserved
+loop-c-preserved c = c.loop-c.invariant ∙ goes_on c.args.text.now c.loop-c.c-index c.loop-c.value c.loop-c-test.true (sym c.in_ok-value.was ∙ c.with_digit.ensures)
 
 pub returns : goal.returns
-returns c = record { is = c.loop-i.invariant.2 ∙ all c.args.text.now c.loop-i.i c.loop-i.value c.loop-i-test.false }
+returns c = sym (c.loop-c.invariant ∙ all c.args.text.now c.loop-c.c-index c.loop-c.value c.loop-c-test.false)
