@@ -1,42 +1,30 @@
 -- What a character more makes of what was taken of a text.
-use mathlib.Core.Path.{◌≡◌, refl, sym, ◌∙◌}
-use mathlib.Core.Bool.{Bool, true, false, cond, true≢false}
+use mathlib.Core.Path.{◌≡◌, refl, sym, ap, ◌∙◌}
+use mathlib.Core.Bool.{Bool, true, false, cond}
 use mathlib.Core.List.{List, [], ◌∷◌, ◌++◌, append-nil, append_assoc}
-use mathlib.Core.Option.{Option, none, some}
 use Prim.Native.Nat.{ℕ, ◌+◌, ◌*◌, ◌/◌, ◌%◌, ◌≤◌, ◌<◌}
 use native.Mathlib.Numerals.{add-one}
 use native.Mathlib.Omega.{arith}
-use lib.Dec.{ltb}
-use lib.ListN.{length, take, get_or, set, length-append, length-set}
+use lib.Dec.{eqb}
+use lib.ListN.{length, take, get_or, set, length-append}
 use lib.Seq.{take_all, take-suc, take-suc-set, take-set-le, get_or-set_same, append_snoc}
-use borrow.Author.Tests.{lt-ltb, le-ltb, ltb-true, ltb-false}
-use Rattle.hexadecimal.specs.Hex.{digit, before, pair, octets}
-use Rattle.hexadecimal.specs.Stretches.{behind, waiting, going_on, SoFar}
+use borrow.Author.Tests.{eq-eqb, ne_eqb}
+use Rattle.std.specs.Prelude.{Option, Some, None, Err}
+use Rattle.hexadecimal.specs.declared.Refusal.{Refusal}
+use Rattle.hexadecimal.specs.declared.Refusal.TheVariants.{TooLong, NotHexadecimal}
 use Rattle.hexadecimal.specs.declared.stretches.Digits.{Digits}
-
--- both characters are digits
-pair-good : (h l : ℕ) (o : Option (List ℕ)) → h < 16 → l < 16 → pair h l o ≡ before (h * 16 + l) o
-unfolding pair
-pair-good h l o p q = simp (lt-ltb h 16 p, lt-ltb l 16 q)
-
--- one of them is not
-pair-high : (h l : ℕ) (o : Option (List ℕ)) → 16 ≤ h → pair h l o ≡ none
-unfolding pair
-pair-high h l o p = simp (le-ltb h 16 p)
-
-pair-low : (h l : ℕ) (o : Option (List ℕ)) → h < 16 → 16 ≤ l → pair h l o ≡ none
-unfolding pair
-pair-low h l o p q = simp (lt-ltb h 16 p, le-ltb l 16 q)
+use Rattle.hexadecimal.specs.Hex.{digit, before, pair, octets, Decodes}
+use Rattle.hexadecimal.specs.Stretches.{behind, waiting, going_on, Stands, SoFar}
 
 behind-nothing : (o : Option (List ℕ)) → o ≡ behind [] o
 unfolding behind
-behind-nothing none = refl
-behind-nothing (some ys) = refl
+behind-nothing None = refl
+behind-nothing (Some ys) = refl
 
 behind-before : (xs : List ℕ) (v : ℕ) (o : Option (List ℕ)) → behind xs (before v o) ≡ behind (xs ++ (v ∷ [])) o
 unfolding behind before
-behind-before xs v none = refl
-behind-before xs v (some ys) = rw append_snoc
+behind-before xs v None = refl
+behind-before xs v (Some ys) = rw append_snoc
 
 -- the first character waits for the second, if it is a digit
 first : (c : ℕ) (rest : List ℕ) → octets (c ∷ rest) ≡ waiting (digit c) rest
@@ -44,110 +32,92 @@ unfolding octets waiting
 first c [] = refl
 first c (l ∷ t) = refl
 
-first-bad : (h : ℕ) (rest : List ℕ) → 16 ≤ h → waiting h rest ≡ none
-unfolding waiting
-first-bad h [] p = refl
-first-bad h (l ∷ t) p = pair-high h (digit l) (octets t) p
+first-wrong : (rest : List ℕ) → waiting None rest ≡ None
+unfolding waiting pair
+first-wrong [] = refl
+first-wrong (l ∷ t) = refl
+
+-- no digit waits, or one does
+even : (n : ℕ) (frame rest : List ℕ) → n % 2 ≡ 0 → going_on n frame rest ≡ behind (take (n / 2) frame) (octets rest)
+unfolding going_on
+even n frame rest e = rw (eq-eqb (n % 2) 0 e)
+
+odd : (n : ℕ) (frame rest : List ℕ) → n % 2 ≡ 1 → going_on n frame rest ≡ behind (take (n / 2) frame) (waiting (Some (get_or frame (n / 2) 0 / 16)) rest)
+unfolding going_on
+odd n frame rest e = rw (ne_eqb (n % 2) 0 (λ z. omega arith))
 
 -- nothing was taken
-pub nothing : (frame : List ℕ) → SoFar [] frame (record { count = 0; half = false; good = true; long = false })
+pub nothing : (frame rest : List ℕ) → octets rest ≡ going_on 0 frame rest
 unfolding going_on
-nothing frame = record { long = sym (le-ltb (length frame * 2) 0 (omega arith)); counted = λ q. refl; is = λ q rest. behind-nothing (octets rest) }
+nothing frame rest = behind-nothing (octets rest)
 
--- too long stays too long, and what had room is not
-stays : (m n : ℕ) (t : Bool) → t ≡ ltb m n → (t ≡ false → n < m) → t ≡ ltb m (n + 1)
-stays m n true e h = let l = ltb-true m n (sym e) in sym (lt-ltb m (n + 1) (omega arith))
-stays m n false e h = let l = h refl in sym (le-ltb m (n + 1) (omega arith))
+module _ (n c d : ℕ) (frame : List ℕ) (l : n / 2 < length frame) (q : digit c ≡ Some d) where
+  -- a digit in the higher half of its octet
+  pub higher : n % 2 ≡ 0 → (rest : List ℕ) → going_on n frame (c ∷ rest) ≡ going_on (n + 1) (set frame (n / 2) (d * 16)) rest
+  higher e rest =
+      let f = set frame (n / 2) (d * 16) in
+      let h : (n + 1) / 2 ≡ n / 2 = omega arith in
+      let k : d * 16 / 16 ≡ d = omega arith in
+      rw (even n frame (c ∷ rest) e, first c rest, q, odd (n + 1) f rest (omega arith), h, take-set-le (n / 2) frame (n / 2) (d * 16) (omega arith), get_or-set_same frame (n / 2) (d * 16) 0 l, k)
 
--- what had no room is too long
-over : (m n : ℕ) (t : Bool) → t ≡ ltb m n → (t ≡ false → m ≤ n) → true ≡ ltb m (n + 1)
-over m n true e h = let l = ltb-true m n (sym e) in sym (lt-ltb m (n + 1) (omega arith))
-over m n false e h = let l = h refl in sym (lt-ltb m (n + 1) (omega arith))
+  -- .. and in the lower
+  pub lower : n % 2 ≡ 1 → (rest : List ℕ) → going_on n frame (c ∷ rest) ≡ going_on (n + 1) (set frame (n / 2) (get_or frame (n / 2) 0 / 16 * 16 + d)) rest
+  unfolding waiting pair
+  lower e rest =
+      let v = get_or frame (n / 2) 0 / 16 * 16 + d in
+      let h : (n + 1) / 2 ≡ n / 2 + 1 = omega arith in
+      rw (odd n frame (c ∷ rest) e, q, behind-before, even (n + 1) (set frame (n / 2) v) rest (omega arith), h, add-one (n / 2), take-suc-set frame (n / 2) v l)
 
--- a digit in the higher half of its octet
-higher_on : (frame rest : List ℕ) (n c : ℕ) (g : Bool) → n < length frame → let f = set frame n (digit c % 16 * 16) in cond g (behind (take n frame) (octets (c ∷ rest))) none ≡ cond (cond g (ltb (digit c) 16) false) (behind (take n f) (waiting (get_or f n 0 / 16) rest)) none
-unfolding behind
-higher_on frame rest n c false l = refl
-higher_on frame rest n c true l = go (ltb (digit c) 16) refl
+-- no digit
+no_digit : (n c : ℕ) (frame rest : List ℕ) → digit c ≡ None → going_on n frame (c ∷ rest) ≡ None
+unfolding going_on behind waiting pair
+no_digit n c frame rest q = rw (first c rest, q, first-wrong rest) (go (eqb (n % 2) 0))
   where
-    f : List ℕ
-    f = set frame n (digit c % 16 * 16)
+    go : (b : Bool) → behind (take (n / 2) frame) (cond b None None) ≡ None
+    go true = refl
+    go false = refl
 
-    go : (t : Bool) → ltb (digit c) 16 ≡ t → behind (take n frame) (octets (c ∷ rest)) ≡ cond t (behind (take n f) (waiting (get_or f n 0 / 16) rest)) none
-    go true q =
-        let p = ltb-true (digit c) 16 q in
-        let e : digit c % 16 * 16 / 16 ≡ digit c = omega arith in
-        rw (take-set-le n frame n (digit c % 16 * 16) (omega arith), get_or-set_same frame n (digit c % 16 * 16) 0 l, e, first c rest)
-    go false q = rw (first c rest, first-bad (digit c) rest (ltb-false (digit c) 16 q))
-
--- .. and in the lower
-lower_on : (frame rest : List ℕ) (n c : ℕ) (g : Bool) → n < length frame → get_or frame n 0 < 256 → let f = set frame n (get_or frame n 0 / 16 * 16 + digit c % 16) in cond g (behind (take n frame) (waiting (get_or frame n 0 / 16) (c ∷ rest))) none ≡ cond (cond g (ltb (digit c) 16) false) (behind (take (n + 1) f) (octets rest)) none
-unfolding behind waiting
-lower_on frame rest n c false l b = refl
-lower_on frame rest n c true l b = go (ltb (digit c) 16) refl
-  where
-    h : ℕ
-    h = get_or frame n 0 / 16
-
-    f : List ℕ
-    f = set frame n (h * 16 + digit c % 16)
-
-    under : h < 16
-    under = omega arith
-
-    go : (t : Bool) → ltb (digit c) 16 ≡ t → behind (take n frame) (waiting h (c ∷ rest)) ≡ cond t (behind (take (n + 1) f) (octets rest)) none
-    go true q =
-        let p = ltb-true (digit c) 16 q in
-        let e : digit c % 16 ≡ digit c = omega arith in
-        rw (pair-good h (digit c) (octets rest) under p, behind-before, add-one n, take-suc-set frame n (h * 16 + digit c % 16) l, e)
-    go false q = rw (pair-low h (digit c) (octets rest) under (ltb-false (digit c) 16 q))
-
-module _ (text frame : List ℕ) (s : Digits) (c : ℕ) (so : SoFar text frame s) where
+module _ (text frame : List ℕ) (n c : ℕ) where
   one_longer : length (text ++ (c ∷ [])) ≡ length text + 1
   one_longer = length-append text (c ∷ [])
 
-  on : s.long ≡ false → (rest : List ℕ) → octets (text ++ (c ∷ []) ++ rest) ≡ going_on s frame (c ∷ rest)
-  on q rest = rw (append_snoc text c rest) (so.is q (c ∷ rest))
+  then : (rest : List ℕ) → octets ((text ++ (c ∷ [])) ++ rest) ≡ octets (text ++ (c ∷ rest))
+  then rest = ap octets (append_assoc text (c ∷ []) rest)
 
-  -- the frame is full
-  pub full : s.count ≡ length frame → SoFar (text ++ (c ∷ [])) frame (record { count = s.count; half = s.half; good = s.good; long = true })
-  full l = record { long = rw one_longer (over (length frame * 2) (length text) s.long so.long (λ q. omega (arith, so.counted q))); counted = λ q. absurd (true≢false q); is = λ q. absurd (true≢false q) }
+  -- a digit, which had room
+  pub longer : (r : Option Refusal) (f : List ℕ) → n / 2 < length frame → ((rest : List ℕ) → going_on n frame (c ∷ rest) ≡ going_on (n + 1) f rest) → Stands text frame n r → Stands (text ++ (c ∷ [])) f (n + 1) r
+  longer None f l g so = (omega (arith, one_longer, so.0), λ rest. then rest ∙ so.1 (c ∷ rest) ∙ g rest)
+  longer (Some NotHexadecimal) f l g so = (omega (arith, one_longer, so.0), λ rest. then rest ∙ so.1 (c ∷ rest))
+  longer (Some TooLong) f l g so = absurd (omega (arith, so.0))
 
-  module _ (l : s.count < length frame) where
-    pub higher : s.half ≡ false → SoFar (text ++ (c ∷ [])) (set frame s.count (digit c % 16 * 16)) (record { count = s.count; half = true; good = cond s.good (ltb (digit c) 16) false; long = s.long })
-    unfolding going_on
-    higher h = record { long = rw (length-set, one_longer) (stays (length frame * 2) (length text) s.long so.long (λ q. omega (arith, even q))); counted = λ q. rw one_longer (omega (arith, even q)); is = λ q rest. on q rest ∙ rw h (higher_on frame rest s.count c s.good l) }
-      where
-        even : s.long ≡ false → length text ≡ s.count * 2
-        even q = so.counted q ∙ rw h (omega arith)
+  -- another character, which had room
+  pub wrong : (r : Option Refusal) → n / 2 < length frame → digit c ≡ None → Stands text frame n r → Stands (text ++ (c ∷ [])) frame (n + 1) (Some NotHexadecimal)
+  wrong None l q so = (omega (arith, one_longer, so.0), λ rest. then rest ∙ so.1 (c ∷ rest) ∙ no_digit n c frame rest q)
+  wrong (Some NotHexadecimal) l q so = (omega (arith, one_longer, so.0), λ rest. then rest ∙ so.1 (c ∷ rest))
+  wrong (Some TooLong) l q so = absurd (omega (arith, so.0))
 
-    pub lower : s.half ≡ true → get_or frame s.count 0 < 256 → SoFar (text ++ (c ∷ [])) (set frame s.count (get_or frame s.count 0 / 16 * 16 + digit c % 16)) (record { count = s.count + 1; half = false; good = cond s.good (ltb (digit c) 16) false; long = s.long })
-    unfolding going_on
-    lower h b = record { long = rw (length-set, one_longer) (stays (length frame * 2) (length text) s.long so.long (λ q. omega (arith, odd q))); counted = λ q. rw one_longer (omega (arith, odd q)); is = λ q rest. on q rest ∙ rw h (lower_on frame rest s.count c s.good l b) }
-      where
-        odd : s.long ≡ false → length text ≡ s.count * 2 + 1
-        odd q = so.counted q ∙ rw h
+  -- a character without room
+  pub full : (r : Option Refusal) → n ≡ length frame * 2 → Stands text frame n r → Stands (text ++ (c ∷ [])) frame n (Some TooLong)
+  full None e so = (e, omega (arith, one_longer, so.0))
+  full (Some NotHexadecimal) e so = (e, omega (arith, one_longer, so.0))
+  full (Some TooLong) e so = (e, omega (arith, one_longer, so.1))
 
--- the whole text was taken: a digit still waits, some character was none, or all is well
-module _ (text frame : List ℕ) (s : Digits) (so : SoFar text frame s) (short : s.long ≡ false) where
-  ends : octets text ≡ going_on s frame []
-  ends = rw (← append-nil text) (so.is short [])
+-- the whole text was taken: it was refused, a digit still waits, or all is well
+module _ (text frame : List ℕ) (n : ℕ) (l : n ≤ length frame * 2) where
+  pub refused : (r : Refusal) → Stands text frame n (Some r) → Decodes text frame (Err r)
+  refused NotHexadecimal so = (ap octets (sym (append-nil text)) ∙ so.1 [], omega (arith, so.0))
+  refused TooLong so = so.1
 
-  pub waits : s.half ≡ true → octets text ≡ none
-  unfolding going_on waiting behind
-  waits h = ends ∙ rw h (go s.good)
-    where
-      go : (g : Bool) → ◌≡◌ {A = Option (List ℕ)} (cond g none none) none
-      go true = refl
-      go false = refl
+  ends : Stands text frame n None → octets text ≡ going_on n frame []
+  ends so = ap octets (sym (append-nil text)) ∙ so.1 []
 
-  pub wrong : s.good ≡ false → octets text ≡ none
-  unfolding going_on
-  wrong g = ends ∙ rw g
+  pub waits : n % 2 ≡ 1 → Stands text frame n None → (octets text ≡ None) × (length text ≤ length frame * 2)
+  unfolding waiting behind
+  waits e so = (ends so ∙ odd n frame [] e, omega (arith, so.0))
 
-  pub right : s.half ≡ false → s.good ≡ true → octets text ≡ some (take s.count frame)
-  unfolding going_on behind octets
-  right h g = ends ∙ rw (h, g, append-nil)
+  pub right : n % 2 ≡ 0 → Stands text frame n None → (octets text ≡ Some (take (n / 2) frame)) × (n / 2 ≤ length frame)
+  unfolding behind octets
+  right e so = (ends so ∙ even n frame [] e ∙ rw append-nil, omega arith)
 
 -- a stretch, character by character
 module _ (text stretch : List ℕ) (i : ℕ) where
@@ -159,7 +129,3 @@ module _ (text stretch : List ℕ) (i : ℕ) where
 
   pub taken_all : {frame : List ℕ} {s : Digits} → length stretch ≤ i → SoFar (text ++ take i stretch) frame s → SoFar (text ++ stretch) frame s
   taken_all l h = rw (← take_all i stretch l) h
-
--- two characters an octet are not too many
-pub short : (text frame : List ℕ) (s : Digits) → SoFar text frame s → length text ≤ length frame * 2 → s.long ≡ false
-short text frame s so l = so.long ∙ le-ltb (length frame * 2) (length text) l

@@ -1,7 +1,7 @@
 // Octets in hexadecimal, in capitals or not.
 #![tactic(auto)]
 
-ghost use Rattle.std.specs.Prelude.{false, ◌≡◌, ◌*◌, ◌≤◌, length};
+ghost use Rattle.std.specs.Prelude.{◌≡◌, ◌<◌, IfSome};
 ghost use Rattle.hexadecimal.specs.Hex.{Decodes};
 ghost use Rattle.hexadecimal.specs.Hex.{digit as Hex·digit};
 
@@ -9,47 +9,29 @@ use stretches::{more, start, whole};
 
 pub mod stretches; // stretches.rt: a text that comes in stretches
 
-// Whether a text is hexadecimal, and how many octets it has; none where it is not.
+// Why a text has no octets: it has more characters than two an octet of the frame, whatever they are; or a digit stands alone, or another character is met.
 #[derive(Clone, Copy)]
-pub struct Decoded {
-    pub good: bool,
-    pub count: usize,
+pub enum Refusal {
+    TooLong,
+    NotHexadecimal,
 }
 
-// The octets go to the front of out: the text is one stretch.
-pub fn decode(text: &[u8], out: &mut [u8]) -> Decoded
-    requires { length text.now ≤ length out.old * 2 }
+// The octets go to the front of out: the text is one stretch. How many they are.
+pub fn decode(text: &[u8], out: &mut [u8]) -> Result<usize, Refusal>
     ensures { Decodes text.now out.new result }
 {
     whole(more(start(), text, out))
 }
 
-fn bad() -> Decoded
-    ensures { result ≡ record { good = false; count = 0 } }
+// A digit's value, `A` and `a` being 10.
+fn digit(c: u8) -> Option<u8>
+    ensures value { result ≡ Hex·digit c }
+    ensures low { IfSome result (λ d. d < 16) }
 {
-    Decoded {
-        good: false,
-        count: 0,
-    }
-}
-
-// A digit's value, `A` and `a` being 10; 16 for another character.
-fn digit(c: u8) -> u8
-    ensures { result ≡ Hex·digit c }
-{
-    if c < b'0' {
-        16
-    } else if c <= b'9' {
-        c - b'0'
-    } else if c < b'A' {
-        16
-    } else if c <= b'F' {
-        c - 55
-    } else if c < b'a' {
-        16
-    } else if c <= b'f' {
-        c - 87
-    } else {
-        16
+    match c {
+        b'0'..=b'9' => Some(c - b'0'),
+        b'A'..=b'F' => Some(c - b'A' + 10),
+        b'a'..=b'f' => Some(c - b'a' + 10),
+        _ => None,
     }
 }

@@ -1,104 +1,88 @@
 // A text in hexadecimal that comes in stretches: its octets are put into a frame as they come.
-ghost use Rattle.std.specs.Prelude.{false, cond, List, [], ◌∷◌, ◌++◌, ◌≡◌, ℕ, ◌+◌, ◌*◌, ◌/◌, ◌%◌, ◌≤◌, ◌<◌, ltb, length};
+ghost use Rattle.std.specs.Prelude.{List, [], ◌∷◌, ◌++◌, ◌≡◌, ℕ, ◌+◌, ◌*◌, ◌/◌, ◌≤◌, ◌<◌, length, IfOk};
 ghost use Rattle.hexadecimal.specs.Hex.{Decodes};
 ghost use Rattle.hexadecimal.specs.Stretches.{SoFar};
 
-use super::{Decoded, bad, digit};
+use super::{Refusal, digit};
 
-// What was taken so far: how many octets; whether a digit waits, as the higher half of the next; whether all were digits; whether there were more than the frame has room for.
+// What was taken so far: how many characters, no more than the frame has room for; why the text has no octets, where that is known. A digit that waits stands in the higher half of its octet.
 #[derive(Clone, Copy)]
 pub struct Digits {
-    pub count: usize,
-    pub half: bool,
-    pub good: bool,
-    pub long: bool,
+    pub taken: usize,
+    pub refusal: Option<Refusal>,
 }
 
 // Of nothing.
 pub fn start() -> Digits
-    ensures { (result.count ≡ 0) × ((frame : List ℕ) → SoFar [] frame result) }
+    ensures none { result.taken ≡ 0 }
+    ensures so_far { (frame : List ℕ) → SoFar [] frame result }
 {
     Digits {
-        count: 0,
-        half: false,
-        good: true,
-        long: false,
+        taken: 0,
+        refusal: None,
     }
 }
 
 // The next stretch of the text.
 pub fn more(digits: Digits, stretch: &[u8], frame: &mut [u8]) -> Digits
-    requires { digits.count ≤ length frame.old }
-    ensures { (result.count ≤ length frame.old) × ((text : List ℕ) → SoFar text frame.old digits → SoFar (text ++ stretch.now) frame.new result) }
+    requires { digits.taken ≤ length frame.old * 2 }
+    ensures within { result.taken ≤ length frame.old * 2 }
+    ensures so_far { (text : List ℕ) → SoFar text frame.old digits → SoFar (text ++ stretch.now) frame.new result }
 {
-    let mut d = digits;
-    let mut i = 0;
-    while i < stretch.len() {
-        d = one(d, stretch[i], frame);
-        i += 1;
+    let mut digits = digits;
+    for &c in stretch {
+        digits = one(digits, c, frame);
     }
-    d
+    digits
 }
 
 // The next character.
 fn one(digits: Digits, c: u8, frame: &mut [u8]) -> Digits
-    requires { digits.count ≤ length frame.old }
-    ensures { (result.count ≤ length frame.old) × ((text : List ℕ) → SoFar text frame.old digits → SoFar (text ++ (c ∷ [])) frame.new result) }
+    requires { digits.taken ≤ length frame.old * 2 }
+    ensures within { result.taken ≤ length frame.old * 2 }
+    ensures so_far { (text : List ℕ) → SoFar text frame.old digits → SoFar (text ++ (c ∷ [])) frame.new result }
 {
-    let n = digits.count;
-    if n == frame.len() {
+    let n = digits.taken;
+    let at = n / 2;
+    if at == frame.len() {
         return Digits {
-            count: n,
-            half: digits.half,
-            good: digits.good,
-            long: true,
+            taken: n,
+            refusal: Some(Refusal::TooLong),
         };
     }
-    let v = digit(c);
-    let good = still(digits.good, v);
-    if digits.half {
-        frame[n] = joined(frame[n], v);
+    let Some(d) = digit(c) else {
         return Digits {
-            count: n + 1,
-            half: false,
-            good: good,
-            long: digits.long,
+            taken: n + 1,
+            refusal: Some(Refusal::NotHexadecimal),
         };
-    }
-    frame[n] = v % 16 * 16;
+    };
+    frame[at] = if n % 2 == 0 {
+        d * 16
+    } else {
+        joined(frame[at], d)
+    };
     Digits {
-        count: n,
-        half: true,
-        good: good,
-        long: digits.long,
+        taken: n + 1,
+        refusal: digits.refusal,
     }
 }
 
 // The higher half of an octet, and its lower half.
-fn joined(octet: u8, v: u8) -> u8
-    ensures { (octet < 256) × (result ≡ octet / 16 * 16 + v % 16) }
+fn joined(octet: u8, d: u8) -> u8
+    requires { d < 16 }
+    ensures { result ≡ octet / 16 * 16 + d }
 {
-    octet / 16 * 16 + v % 16
+    octet / 16 * 16 + d
 }
 
-fn still(good: bool, v: u8) -> bool
-    ensures { result ≡ cond good (ltb v 16) false }
+// How many octets the text has: a digit that still waits has none.
+pub fn whole(digits: Digits) -> Result<usize, Refusal>
+    ensures within { IfOk result (λ n. n * 2 ≤ digits.taken) }
+    ensures came { (text frame : List ℕ) → digits.taken ≤ length frame * 2 → SoFar text frame digits → Decodes text frame result }
 {
-    if good { v < 16 } else { false }
-}
-
-// What the text was, where it was not too long: a digit that still waits has no octet.
-pub fn whole(digits: Digits) -> Decoded
-    ensures { (result.count ≤ digits.count) × ((text frame : List ℕ) → digits.count ≤ length frame → digits.long ≡ false → SoFar text frame digits → Decodes text frame result) }
-{
-    if digits.half {
-        return bad();
-    }
-    if !digits.good {
-        return bad();
-    }
-    Decoded {
-        good: true,
-        count: digits.count,
+    match digits.refusal {
+        Some(refusal) => Err(refusal),
+        None if digits.taken % 2 == 1 => Err(Refusal::NotHexadecimal),
+        None => Ok(digits.taken / 2),
     }
 }

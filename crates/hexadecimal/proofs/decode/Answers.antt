@@ -1,8 +1,7 @@
 -- The text is one stretch.
 use mathlib.Core.List.{[]}
 use borrow.Author.Rules.{rules}
-use Rattle.hexadecimal.proofs.StretchLaws.{short}
 use Rattle.hexadecimal.proofs.decode.Goals as goal
 
 pub returns : goal.returns
-returns c = let so = c.more.ensures.1 [] (c.start.ensures.1 _) in c.whole.ensures.1 _ _ (search rules) (short _ _ _ so (search rules)) so
+returns c = c.whole.ensures.came _ _ (search rules) (c.more.ensures.so_far [] (c.start.ensures.so_far _))

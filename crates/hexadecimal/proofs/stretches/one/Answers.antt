@@ -1,12 +1,13 @@
-use borrow.Author.Rules.{rules}
-use Rattle.hexadecimal.proofs.StretchLaws.{full, higher, lower}
+use Rattle.std.proofs.Common.{sym, ◌∙◌, arith, rules}
+use Rattle.hexadecimal.proofs.StretchLaws.{full, longer, wrong, higher, lower}
 use Rattle.hexadecimal.proofs.stretches.one.Goals as goal
+use Rattle.hexadecimal.proofs.stretches.one.Goals.{then-n-eq0, else-n-eq0}
 
-pub returns-then-n-frame : goal.returns-then-n-frame
-returns-then-n-frame c = (search rules, λ text so. full text _ _ _ so c.if-n-frame.true)
+pub returns-then-at-frame-clause-so_far : goal.returns-then-at-frame-clause-so_far
+returns-then-at-frame-clause-so_far c = λ text so. record { is = full text _ _ _ _ (omega (arith, c.if-at-frame.true, c.requires)) so.is }
 
-pub returns-then-digits : goal.returns-then-digits
-returns-then-digits c = (search rules, λ text so. rw (c.joined.ensures.1, c.still-good.ensures, c.digit-v.ensures) (lower text _ _ _ so (search rules) c.if-digits.true c.joined.ensures.0))
+pub returns-in_default-clause-so_far : goal.returns-in_default-clause-so_far
+returns-in_default-clause-so_far c = λ text so. record { is = wrong text _ _ _ _ (omega (arith, c.if-at-frame.false, c.requires)) (sym c.digit.ensures.value ∙ c.in_default.is) so.is }
 
-pub returns : goal.returns
-returns c = (search rules, λ text so. rw (c.still-good.ensures, c.digit-v.ensures) (higher text _ _ _ so (search rules) c.if-digits.false))
+pub returns-clause-so_far : goal.returns-clause-so_far
+returns-clause-so_far c = λ text so. record { is = longer text _ _ _ _ _ (omega (arith, c.if-at-frame.false, c.requires)) (elim c.if-n-eq0.branch [ then-n-eq0 w ↦ rw w.frame-is (higher _ _ _ _ (search rules) (sym c.digit.ensures.value ∙ c.in-Some.is) w.if-n-eq0.true) | else-n-eq0 w ↦ rw (w.frame-is, w.joined.ensures) (lower _ _ _ _ (search rules) (sym c.digit.ensures.value ∙ c.in-Some.is) (omega (arith, w.if-n-eq0.false))) ]) so.is }

@@ -1,13 +1,13 @@
-use borrow.Author.Tests.{not-true, not-false}
-use borrow.Author.Rules.{rules}
-use Rattle.hexadecimal.proofs.StretchLaws.{waits, wrong, right}
+use Rattle.std.proofs.Common.{arith, subst}
+use Rattle.hexadecimal.specs.Stretches.{Stands}
+use Rattle.hexadecimal.proofs.StretchLaws.{refused, waits, right}
 use Rattle.hexadecimal.proofs.stretches.whole.Goals as goal
 
-pub returns-then-digits : goal.returns-then-digits
-returns-then-digits c = rw c.bad.ensures (search rules, λ text frame l q so. record { is = waits text frame _ so q c.if-digits.true; within = search rules })
+pub returns-in-Some-clause-came : goal.returns-in-Some-clause-came
+returns-in-Some-clause-came c = λ text frame l so. refused text frame c.args.digits.taken l c.in-Some.refusal (subst (Stands text frame c.args.digits.taken) c.in-Some.is so.is)
 
-pub returns-then-not-digits : goal.returns-then-not-digits
-returns-then-not-digits c = rw c.bad-then-not-digits.ensures (search rules, λ text frame l q so. record { is = wrong text frame _ so q (not-true _ c.if-not-digits.true); within = search rules })
+pub returns-in-None-clause-came : goal.returns-in-None-clause-came
+returns-in-None-clause-came c = λ text frame l so. waits text frame c.args.digits.taken l (omega (arith, c.if-digits-eq1.true)) (subst (Stands text frame c.args.digits.taken) c.in-None.is so.is)
 
-pub returns : goal.returns
-returns c = (search rules, λ text frame l q so. record { is = right text frame _ so q c.if-digits.false (not-false _ c.if-not-digits.false); within = l })
+pub returns-in-None-2-clause-came : goal.returns-in-None-2-clause-came
+returns-in-None-2-clause-came c = λ text frame l so. right text frame c.args.digits.taken l (omega (arith, c.if-digits-eq1.false)) (subst (Stands text frame c.args.digits.taken) c.in-None.is so.is)
