@@ -1,59 +1,34 @@
-// A program that answers lines: what it has read, what it has gathered, and whether it goes on.
+// When a program that answers lines writes what it has gathered, and when it ends.
 #![tactic(auto)]
 
-ghost use Rattle.std.specs.Prelude.{◌≤◌, length};
-ghost use Rattle.line_flow.specs.Flow.{Runs, Answered, Ended};
+ghost use Rattle.std.specs.Prelude.{◌≡◌, ◌≤◌, if◌then◌else◌};
+ghost use Rattle.std.proofs.Common.{Break, Continue};
 
-use line_input::input;
 use line_input::input::Input;
-use line_output::output;
-use line_output::output::{Output, flush};
+use line_output::output::Output;
+use std::io::Read;
+use std::ops::ControlFlow;
 
-#[derive(Clone, Copy)]
-pub struct Flow {
-    pub input: Input,
-    pub output: Output,
-    pub on: bool,
-}
-
-pub fn start() -> Flow
-    ensures { Runs result 0 0 }
+// After an answer: it is written now where no further line waits, so that whoever types lines sees each answer. A write that failed is the end.
+pub fn answered<R: Read>(input: &Input<R>, output: &mut Output) -> ControlFlow<()>
+    ensures written { input.now.end ≤ input.now.at → output.new.len ≡ 0 }
+    ensures goes_on { result ≡ (if output.new.failed then Break tt else Continue tt) }
 {
-    Flow {
-        input: input::start(),
-        output: output::start(),
-        on: true,
+    if input.at == input.end {
+        output.flush();
     }
-}
-
-// After an answer: it is written now where no further line waits, so that whoever types lines sees each answer.
-pub fn answered(space: &[u8], input: Input, output: Output) -> Flow
-    requires { output.len ≤ length space.now }
-    ensures { Answered result input (length space.now) }
-{
-    if input.at < input.end {
-        return Flow {
-            input: input,
-            output: output,
-            on: !output.failed,
-        };
-    }
-    let rest = flush(space, output);
-    Flow {
-        input: input,
-        output: rest,
-        on: !rest.failed,
+    if output.failed {
+        ControlFlow::Break(())
+    } else {
+        ControlFlow::Continue(())
     }
 }
 
 // After the last line.
-pub fn ended(space: &[u8], input: Input, output: Output) -> Flow
-    requires { output.len ≤ length space.now }
-    ensures { Ended result input }
+pub fn ended(output: &mut Output) -> ControlFlow<()>
+    ensures written { output.new.len ≡ 0 }
+    ensures over { result ≡ Break tt }
 {
-    Flow {
-        input: input,
-        output: flush(space, output),
-        on: false,
-    }
+    output.flush();
+    ControlFlow::Break(())
 }

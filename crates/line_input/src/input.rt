@@ -1,161 +1,83 @@
 // Lines of standard input, read through lent bytes, so that the memory does not grow with the input.
-ghost use Rattle.std.specs.Prelude.{◌||◌, ◌≡◌, ◌≤◌, length};
-ghost use Rattle.line_input.specs.Input.{Waits, Holds};
+ghost use Rattle.std.specs.Prelude.{◌≡◌, ◌≤◌, length};
 
+use super::parts::Parts;
 use std::io::Read;
 
-pub const NEWLINE: u8 = 10;
+const NEWLINE: u8 = b'\n';
 
 // The lent bytes from `at` to `end` are read and not yet taken. After a read that failed nothing more is read, and standard error has said so.
-#[derive(Clone, Copy)]
-pub struct Input {
+#[derive(Drop)]
+pub struct Input<'a, R: Read> {
+    stdin: &'a mut R,
+    space: &'a mut [u8],
     pub at: usize,
     pub end: usize,
-    pub failed: bool,
+    failed: bool,
+    ghost ordered: { at ≤ end },
+    ghost within: { end ≤ length space.now },
 }
 
-// How much of a line is there: its bytes without the newline, as far as they had room; whether it was longer; whether there was no line, at the end of the input or where a read failed; whether all of it was taken.
-#[derive(Clone, Copy)]
-pub struct Line {
-    pub rest: Input,
-    pub len: usize,
-    pub long: bool,
-    pub none: bool,
-    pub done: bool,
-}
-
-pub fn start() -> Input
-    ensures { Waits result 0 }
-{
-    Input {
-        at: 0,
-        end: 0,
-        failed: false,
-    }
-}
-
-// The next line, at the front of `line`. The last one may lack its newline.
-pub fn next<R: Read>(stdin: &mut R, space: &mut [u8], input: Input, line: &mut [u8]) -> Line
-    requires { Waits input (length space.old) }
-    ensures { Holds result (length space.old) (length line.old) }
-{
-    let mut l = Line {
-        rest: input,
-        len: 0,
-        long: false,
-        none: true,
-        done: false,
-    };
-    // Nothing says that a line ends, so its parts are counted down from a number that no run uses up.
-    let mut turns = u64::MAX;
-    while 0 < turns {
-        l = part(stdin, space, l, line);
-        if l.done {
-            return l;
-        }
-        turns -= 1;
-    }
-    l
-}
-
-// What was read of a line goes behind what there is of it.
-fn part<R: Read>(stdin: &mut R, space: &mut [u8], l: Line, line: &mut [u8]) -> Line
-    requires { Holds l (length space.old) (length line.old) }
-    ensures { Holds result (length space.old) (length line.old) }
-{
-    let len = l.len;
-    let input = l.rest;
-    let rest = filled(stdin, space, input);
-    let at = rest.at;
-    let end = rest.end;
-    if at == end {
-        return Line {
-            rest: rest,
-            len: len,
-            long: l.long,
-            none: either(l.none, rest.failed),
-            done: true,
-        };
-    }
-    let stop = find(space, at, end, NEWLINE);
-    let count = least(stop - at, line.len() - len);
-    line[len..len + count].copy_from_slice(&space[at..at + count]);
-    let long = either(l.long, count < stop - at);
-    if stop == end {
-        return Line {
-            rest: empty(false),
-            len: len + count,
-            long: long,
-            none: false,
-            done: false,
-        };
-    }
-    Line {
-        rest: Input {
-            at: stop + 1,
-            end: end,
-            failed: false,
-        },
-        len: len + count,
-        long: long,
-        none: false,
-        done: true,
-    }
-}
-
-// Reads once where nothing is left; what is then empty is at its end.
-pub fn filled<R: Read>(stdin: &mut R, space: &mut [u8], input: Input) -> Input
-    requires { Waits input (length space.old) }
-    ensures { Waits result (length space.old) }
-{
-    if input.at < input.end {
-        return input;
-    }
-    if input.failed {
-        return input;
-    }
-    match stdin.read(space) {
-        Ok(got) => Input {
+impl<'a, R: Read> Input<'a, R> {
+    pub fn new(stdin: &'a mut R, space: &'a mut [u8]) -> Input<'a, R>
+        ensures { result.at ≡ result.end }
+    {
+        Input {
+            stdin,
+            space,
             at: 0,
-            end: got,
+            end: 0,
             failed: false,
-        },
-        Err(_) => {
-            io::write_all(2, b"standard input: a read failed\n");
-            empty(true)
         }
     }
-}
 
-pub fn empty(failed: bool) -> Input
-    ensures { Waits result 0 }
-{
-    Input {
-        at: 0,
-        end: 0,
-        failed: failed,
+    // Hands on the next line without its newline, a part after another, and says whether there was one: there is none at the end of the input and where a read fails. The last one may lack its newline.
+    pub fn next<P: Parts>(&mut self, line: &mut P) -> bool {
+        let mut any = false;
+        // Nothing says that a line ends: its parts are fewer than any run counts.
+        for _ in 0..u64::MAX {
+            self.fill();
+            if self.at == self.end {
+                return any && !self.failed;
+            }
+            any = true;
+            if self.part(line) {
+                return true;
+            }
+        }
+        any
     }
-}
 
-pub fn either(a: bool, b: bool) -> bool
-    ensures { result ≡ (a || b) }
-{
-    if a { true } else { b }
-}
-
-// Where the first such byte stands from `from` on, or `to` where none does before it.
-pub(crate) fn find(space: &[u8], from: usize, to: usize, byte: u8) -> usize
-    requires { (from ≤ to) × (to ≤ length space.now) }
-    ensures { (from ≤ result) × (result ≤ to) }
-{
-    match space[from..to].iter().position(|b| *b == byte) {
-        Some(i) => from + i,
-        None => to,
+    // What is there of the line; whether it ends there.
+    fn part<P: Parts>(&mut self, line: &mut P) -> bool {
+        let waiting = &self.space[self.at..self.end];
+        match waiting.iter().position(|b| *b == NEWLINE) {
+            Some(n) => {
+                line.add(&waiting[..n]);
+                self.at += n + 1;
+                true
+            }
+            None => {
+                line.add(waiting);
+                self.at = self.end;
+                false
+            }
+        }
     }
-}
 
-fn least(a: usize, b: usize) -> usize
-    ensures { (result ≤ a) × (result ≤ b) }
-{
-    if a < b { a } else { b }
+    // Reads once where nothing is left; what is then empty is at its end.
+    fn fill(&mut self) {
+        if self.at < self.end || self.failed {
+            return;
+        }
+        self.at = 0;
+        self.end = 0;
+        match self.stdin.read(self.space) {
+            Ok(got) => self.end = got,
+            Err(_) => {
+                io::write_all(2, b"standard input: a read failed\n");
+                self.failed = true;
+            }
+        }
+    }
 }

@@ -2,4 +2,4 @@
 #![tactic(auto)]
 
 pub mod input; // input.rt: lines of standard input
-pub mod frames; // frames.rt: frames in hexadecimal, one a line
+pub mod parts; // parts.rt: what a line is put into
