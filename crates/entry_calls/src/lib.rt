@@ -25,11 +25,5 @@ pub fn call(
         Entry::Pdus => parse_pdus(frame, direction, down, up, words),
         Entry::Cm => parse_cm(frame, direction, words),
         Entry::Acse => parse_acse_apdu(frame, words),
-        Entry::Unknown => Answer::Refused {
-            number: 0,
-            reach: 0,
-            need: 0,
-            lacked: 0,
-        },
     }
 }

@@ -1,97 +1,61 @@
 // A case: `ENTRY DIR DOWNTABLE UPTABLE FRAME ROOM`.
-ghost use Rattle.std.specs.Prelude.{length};
-ghost use Rattle.entry_cases.specs.Cases.{Takes};
+ghost use Rattle.std.specs.Prelude.{◌≤◌, IfSome};
 
-use super::fields::{field, octets, part};
-use check::same;
-use decimal::{Numeral, number};
-use entry_names::{Entry, has_direction, is_there, named};
+use super::fields::{field, octets};
+use decimal::number;
+use entry_names::{Entry, has_direction, named};
 
-// What the line says, or that it is no case; how many octets the tables and the frame have, and how many words are lent.
+// What the line says; how many words are lent.
 #[derive(Clone, Copy)]
-pub struct Case {
-    pub good: bool,
+pub struct Case<'a> {
     pub entry: Entry,
     pub direction: u64,
-    pub downs: usize,
-    pub ups: usize,
-    pub size: usize,
+    pub down: &'a [u8],
+    pub up: &'a [u8],
+    pub frame: &'a [u8],
     pub room: usize,
 }
 
-// The octets go to the front of `down`, `up` and `frame`; at most `most` words are lent. What an entry does not take is read all the same.
-pub fn read(line: &[u8], down: &mut [u8], up: &mut [u8], frame: &mut [u8], most: usize) -> Case
-    ensures { Takes result (length down.old) (length up.old) (length frame.old) most }
+// The octets go to the front of `down`, `up` and `frame`; at most `most` words are lent. What an entry does not take is read all the same. None where the line is no case.
+pub fn read<'a>(
+    line: &[u8],
+    down: &'a mut [u8],
+    up: &'a mut [u8],
+    frame: &'a mut [u8],
+    most: usize,
+) -> Option<Case<'a>>
+    ensures { IfSome result (λ c. c.room ≤ most) }
 {
-    let name = field(line, 0);
-    let way = field(line, name.next);
-    let downs = field(line, way.next);
-    let ups = field(line, downs.next);
-    let octs = field(line, ups.next);
-    let room = field(line, octs.next);
-    if room.to < line.len() {
-        return bad();
+    let (name, rest) = field(line);
+    let (way, rest) = field(rest?);
+    let (downs, rest) = field(rest?);
+    let (ups, rest) = field(rest?);
+    let (octs, rest) = field(rest?);
+    let (room, rest) = field(rest?);
+    if rest.is_some() {
+        return None;
     }
-    let entry = named(part(line, name));
-    if !is_there(entry) {
-        return bad();
+    let entry = named(name)?;
+    let direction = direction(way, has_direction(entry))?;
+    let room = number(room)? as usize;
+    if most < room {
+        return None;
     }
-    let d = direction(part(line, way), has_direction(entry));
-    if !d.good {
-        return bad();
-    }
-    let r = number(part(line, room));
-    if !r.good {
-        return bad();
-    }
-    let words = r.value as usize;
-    if most < words {
-        return bad();
-    }
-    let a = octets(part(line, downs), down);
-    let b = octets(part(line, ups), up);
-    let c = octets(part(line, octs), frame);
-    if !a.good {
-        return bad();
-    }
-    if !b.good {
-        return bad();
-    }
-    if !c.good {
-        return bad();
-    }
-    Case {
-        good: true,
-        entry: entry,
-        direction: d.value,
-        downs: a.count,
-        ups: b.count,
-        size: c.count,
-        room: words,
-    }
+    Some(Case {
+        entry,
+        direction,
+        down: octets(downs, down)?,
+        up: octets(ups, up)?,
+        frame: octets(octs, frame)?,
+        room,
+    })
 }
 
 // A number of 64 bits, or `-` where there need not be one.
-fn direction(text: &[u8], needed: bool) -> Numeral {
-    if same(text, b"-") {
-        return Numeral {
-            good: !needed,
-            value: 0,
-        };
-    }
-    number(text)
-}
-
-fn bad() -> Case
-    ensures { Takes result 0 0 0 0 }
-{
-    Case {
-        good: false,
-        entry: Entry::Unknown,
-        direction: 0,
-        downs: 0,
-        ups: 0,
-        size: 0,
-        room: 0,
+fn direction(text: &[u8], needed: bool) -> Option<u64> {
+    match text {
+        b"-" if needed => None,
+        b"-" => Some(0),
+        _ => number(text),
     }
 }

@@ -1,7 +1,7 @@
 -- The entries by their names, as the letters of a line have them.
-use Rattle.std.specs.Prelude.{◌≡◌, Bool, true, false, List, [], ◌∷◌, ℕ}
+use Rattle.std.specs.Prelude.{◌≡◌, Bool, true, false, List, [], ◌∷◌, ℕ, Option, Some, None}
 use Rattle.entry_names.specs.declared.Entry.{Entry}
-use Rattle.entry_names.specs.declared.Entry.TheVariants.{Apdu, Pdus, Cm, Acse, Unknown}
+use Rattle.entry_names.specs.declared.Entry.TheVariants.{Apdu, Pdus, Cm, Acse}
 
 abbrev apdu : List ℕ
 apdu = 97 ∷ 112 ∷ 100 ∷ 117 ∷ []
@@ -16,23 +16,15 @@ abbrev acse : List ℕ
 acse = 97 ∷ 99 ∷ 115 ∷ 101 ∷ []
 
 -- the name is the entry's, or no entry's
-abbrev pub Names : List ℕ → Entry → Type 0
-Names s Apdu = s ≡ apdu
-Names s Pdus = s ≡ pdus
-Names s Cm = s ≡ cm
-Names s Acse = s ≡ acse
-Names s Unknown = (s ≡ apdu → ⊥) × (s ≡ pdus → ⊥) × (s ≡ cm → ⊥) × (s ≡ acse → ⊥)
-
-abbrev pub is_entry : Entry → Bool
-is_entry Apdu = true
-is_entry Pdus = true
-is_entry Cm = true
-is_entry Acse = true
-is_entry Unknown = false
+abbrev pub Names : List ℕ → Option Entry → Type 0
+Names s (Some Apdu) = s ≡ apdu
+Names s (Some Pdus) = s ≡ pdus
+Names s (Some Cm) = s ≡ cm
+Names s (Some Acse) = s ≡ acse
+Names s None = (s ≡ apdu → ⊥) × (s ≡ pdus → ⊥) × (s ≡ cm → ⊥) × (s ≡ acse → ⊥)
 
 abbrev pub is_directed : Entry → Bool
 is_directed Apdu = false
 is_directed Pdus = true
 is_directed Cm = true
 is_directed Acse = false
-is_directed Unknown = false

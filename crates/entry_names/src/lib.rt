@@ -2,9 +2,7 @@
 #![tactic(auto)]
 
 ghost use Rattle.std.specs.Prelude.{◌≡◌};
-ghost use Rattle.entry_names.specs.Names.{Names, is_entry, is_directed};
-
-use check::same;
+ghost use Rattle.entry_names.specs.Names.{Names, is_directed};
 
 #[derive(Clone, Copy)]
 pub enum Entry {
@@ -12,34 +10,17 @@ pub enum Entry {
     Pdus,
     Cm,
     Acse,
-    Unknown,
 }
 
-pub fn named(name: &[u8]) -> Entry
+pub fn named(name: &[u8]) -> Option<Entry>
     ensures { Names name.now result }
 {
-    if same(name, b"apdu") {
-        Entry::Apdu
-    } else if same(name, b"pdus") {
-        Entry::Pdus
-    } else if same(name, b"cm") {
-        Entry::Cm
-    } else if same(name, b"acse") {
-        Entry::Acse
-    } else {
-        Entry::Unknown
-    }
-}
-
-pub fn is_there(e: Entry) -> bool
-    ensures { result ≡ is_entry e }
-{
-    match e {
-        Entry::Apdu => true,
-        Entry::Pdus => true,
-        Entry::Cm => true,
-        Entry::Acse => true,
-        Entry::Unknown => false,
+    match name {
+        b"apdu" => Some(Entry::Apdu),
+        b"pdus" => Some(Entry::Pdus),
+        b"cm" => Some(Entry::Cm),
+        b"acse" => Some(Entry::Acse),
+        _ => None,
     }
 }
 
@@ -47,11 +28,5 @@ pub fn is_there(e: Entry) -> bool
 pub fn has_direction(e: Entry) -> bool
     ensures { result ≡ is_directed e }
 {
-    match e {
-        Entry::Apdu => false,
-        Entry::Pdus => true,
-        Entry::Cm => true,
-        Entry::Acse => false,
-        Entry::Unknown => false,
-    }
+    matches!(e, Entry::Pdus | Entry::Cm)
 }

@@ -9,10 +9,8 @@ const FIRST: u64 = 0x5A5A_0000_0000_0000;
 pub fn fill(words: &mut [u64])
     ensures { Patterned words.new 0 }
 {
-    let mut i = 0;
-    while i < words.len() {
-        words[i] = FIRST + i as u64;
-        i += 1;
+    for (i, word) in words.iter_mut().enumerate() {
+        *word = FIRST + i as u64;
     }
 }
 
@@ -23,12 +21,9 @@ pub fn stayed(words: &[u64], records: usize) -> bool
     if words.len() / 5 < records {
         return false;
     }
-    let mut i = records * 5;
-    while i < words.len() {
-        if words[i] != FIRST + i as u64 {
-            return false;
-        }
-        i += 1;
-    }
-    true
+    words
+        .iter()
+        .enumerate()
+        .skip(records * 5)
+        .all(|(i, &word)| word == FIRST + i as u64)
 }

@@ -1,4 +1,3 @@
-use mathlib.Core.Path.{refl}
 use Rattle.entry_calls.proofs.call.Goals as goal
 
 pub returns-in-Apdu : goal.returns-in-Apdu
@@ -12,6 +11,3 @@ returns-in-Cm c = rw c.in-Cm.is c.parse_cm.ensures
 
 pub returns-in-Acse : goal.returns-in-Acse
 returns-in-Acse c = rw c.in-Acse.is c.parse_acse_apdu.ensures
-
-pub returns-in-Unknown : goal.returns-in-Unknown
-returns-in-Unknown c = record { is = rw c.in-Unknown.is refl }
