@@ -1,137 +1,80 @@
 // Any entry, with any tables and room: a case a line in, its answer a line out. tools/differential/README.md has the form of both. CASES.md says where the answers in the file `stdout` are from.
 #![tactic(auto)]
 
-ghost use Rattle.std.specs.Prelude.{◌≤◌, length};
-ghost use Rattle.line_flow.specs.Flow.{Runs};
+use entry_cases::case::{Case, read};
+use line_flow::{Turns, each_line};
+use line_input::input::Input;
+use line_input::parts::Bytes;
+use line_output::output::Output;
+use std::io::Read;
 
-use entry_names::Entry;
-use line_flow::Flow;
-use line_input::input::next;
-use line_output::output::{Output, put};
-use std::io::Stdin;
+// What a line, its tables, its frame and the records go to.
+#[derive(Drop)]
+struct Memory {
+    line: [u8; 140000],
+    down: [u8; 300],
+    up: [u8; 300],
+    frame: [u8; 66000],
+    words: [u64; 65536],
+}
 
 fn main(rt: HostRuntime) {
     let mut stdin = rt.stdin();
-    let mut taken = io::large_buffer();
-    let mut gathered = io::large_buffer();
-    let mut line = [0u8; 140000];
-    let mut down = [0u8; 300];
-    let mut up = [0u8; 300];
-    let mut frame = [0u8; 66000];
-    let mut words = [0u64; 65536];
-    all(
-        &mut stdin,
-        &mut taken,
-        &mut gathered,
-        &mut line,
-        &mut down,
-        &mut up,
-        &mut frame,
-        &mut words,
-    );
+    let mut memory = Memory {
+        line: [0; 140000],
+        down: [0; 300],
+        up: [0; 300],
+        frame: [0; 66000],
+        words: [0; 65536],
+    };
+    each_line(&mut stdin, &mut memory);
 }
 
-// Nothing says that the input ends, so its lines are counted down from a number that no run uses up.
-fn all(
-    stdin: &mut Stdin,
-    taken: &mut [u8],
-    gathered: &mut [u8],
-    line: &mut [u8],
-    down: &mut [u8],
-    up: &mut [u8],
-    frame: &mut [u8],
-    words: &mut [u64],
-) {
-    let mut flow = line_flow::start();
-    let mut turns = u64::MAX;
-    while 0 < turns {
-        flow = turn(stdin, taken, gathered, line, down, up, frame, words, flow);
-        if !flow.on {
-            return;
+impl Turns for Memory {
+    fn turn<R: Read>(&mut self, input: &mut Input<R>, output: &mut Output) -> bool {
+        let mut line = Bytes::new(&mut self.line);
+        if !input.next(&mut line) {
+            return false;
         }
-        turns -= 1;
+        match line.line() {
+            Some(line) => answer(
+                output,
+                line,
+                &mut self.down,
+                &mut self.up,
+                &mut self.frame,
+                &mut self.words,
+            ),
+            None => output.put(b"no line\n"),
+        }
+        true
     }
-}
-
-// A line and its answer.
-fn turn(
-    stdin: &mut Stdin,
-    taken: &mut [u8],
-    gathered: &mut [u8],
-    line: &mut [u8],
-    down: &mut [u8],
-    up: &mut [u8],
-    frame: &mut [u8],
-    words: &mut [u64],
-    flow: Flow,
-) -> Flow
-    requires { Runs flow (length taken.old) (length gathered.old) }
-    ensures { Runs result (length taken.old) (length gathered.old) }
-{
-    let input = flow.input;
-    let output = flow.output;
-    let l = next(stdin, taken, input, line);
-    let rest = l.rest;
-    if l.none {
-        return line_flow::ended(gathered, rest, output);
-    }
-    let len = l.len;
-    if l.long {
-        let told = put(gathered, output, b"no line\n");
-        return line_flow::answered(gathered, rest, told);
-    }
-    let told = answer(gathered, output, &line[..len], down, up, frame, words);
-    line_flow::answered(gathered, rest, told)
 }
 
 fn answer(
-    gathered: &mut [u8],
-    output: Output,
+    output: &mut Output,
     line: &[u8],
     down: &mut [u8],
     up: &mut [u8],
     frame: &mut [u8],
     words: &mut [u64],
-) -> Output
-    requires { output.len ≤ length gathered.old }
-    ensures { result.len ≤ length gathered.old }
-{
-    let c = entry_cases::case::read(line, down, up, frame, words.len());
-    if !c.good {
-        return put(gathered, output, b"no line\n");
+) {
+    match read(line, down, up, frame, words.len()) {
+        Some(case) => heard(output, case, &mut words[..case.room]),
+        None => output.put(b"no line\n"),
     }
-    let entry = c.entry;
-    let downs = c.downs;
-    let ups = c.ups;
-    let size = c.size;
-    let room = c.room;
-    heard(
-        gathered,
-        output,
-        entry,
-        c.direction,
-        &down[..downs],
-        &up[..ups],
-        &frame[..size],
-        &mut words[..room],
-    )
 }
 
 // All the words are lent.
-fn heard(
-    gathered: &mut [u8],
-    output: Output,
-    entry: Entry,
-    direction: u64,
-    down: &[u8],
-    up: &[u8],
-    frame: &[u8],
-    words: &mut [u64],
-) -> Output
-    requires { output.len ≤ length gathered.old }
-    ensures { result.len ≤ length gathered.old }
-{
+fn heard(output: &mut Output, case: Case, words: &mut [u64]) {
     word_pattern::fill(words);
-    let a = entry_calls::call(entry, direction, down, up, frame, words);
-    entry_answers::answer(gathered, output, a, words)
+    let a = entry_calls::call(
+        case.entry,
+        case.direction,
+        case.down,
+        case.up,
+        case.frame,
+        words,
+    );
+    entry_answers::answer(output, a, words);
 }

@@ -1,146 +1,88 @@
 // Text for the operator's screen: the phrases and the records of a reading a line in; out, `shown` with the number of bytes and then the lines of the elements, or `no`, the refusal and the bytes needed.
 #![tactic(auto)]
 
-ghost use Rattle.std.specs.Prelude.{◌≤◌, length};
-ghost use Rattle.line_flow.specs.Flow.{Runs};
-
-use line_flow::Flow;
-use line_input::input::next;
-use line_output::output::{Output, put};
+use line_flow::{Turns, each_line};
+use line_input::input::Input;
+use line_input::parts::Bytes;
+use line_output::output::Output;
 use lines::said::labelled;
 use screen::{Refusal, screen_lines};
-use std::io::Stdin;
+use std::io::Read;
 
 mod asked; // asked.rt: what a line asks
 
+use asked::Asked;
+
+// What a line, its phrases, its words and the text go to.
+#[derive(Drop)]
+struct Memory {
+    line: [u8; 262144],
+    down: [u8; 32768],
+    up: [u8; 32768],
+    words: [u64; 32768],
+    text: [u8; 65536],
+}
+
 fn main(rt: HostRuntime) {
     let mut stdin = rt.stdin();
-    let mut taken = io::large_buffer();
-    let mut gathered = io::large_buffer();
-    let mut line = [0u8; 262144];
-    let mut down = [0u8; 32768];
-    let mut up = [0u8; 32768];
-    let mut words = [0u64; 32768];
-    let mut text = [0u8; 65536];
-    all(
-        &mut stdin,
-        &mut taken,
-        &mut gathered,
-        &mut line,
-        &mut down,
-        &mut up,
-        &mut words,
-        &mut text,
-    );
+    let mut memory = Memory {
+        line: [0; 262144],
+        down: [0; 32768],
+        up: [0; 32768],
+        words: [0; 32768],
+        text: [0; 65536],
+    };
+    each_line(&mut stdin, &mut memory);
 }
 
-// Nothing says that the input ends, so its lines are counted down from a number that no run uses up.
-fn all(
-    stdin: &mut Stdin,
-    taken: &mut [u8],
-    gathered: &mut [u8],
-    line: &mut [u8],
-    down: &mut [u8],
-    up: &mut [u8],
-    words: &mut [u64],
-    text: &mut [u8],
-) {
-    let mut flow = line_flow::start();
-    let mut turns = u64::MAX;
-    while 0 < turns {
-        flow = turn(stdin, taken, gathered, line, down, up, words, text, flow);
-        if !flow.on {
-            return;
+impl Turns for Memory {
+    fn turn<R: Read>(&mut self, input: &mut Input<R>, output: &mut Output) -> bool {
+        let mut line = Bytes::new(&mut self.line);
+        if !input.next(&mut line) {
+            return false;
         }
-        turns -= 1;
+        match line.line() {
+            Some(line) => answer(
+                output,
+                line,
+                &mut self.down,
+                &mut self.up,
+                &mut self.words,
+                &mut self.text,
+            ),
+            None => output.put(b"no line\n"),
+        }
+        true
     }
-}
-
-// A line and its answer.
-fn turn(
-    stdin: &mut Stdin,
-    taken: &mut [u8],
-    gathered: &mut [u8],
-    line: &mut [u8],
-    down: &mut [u8],
-    up: &mut [u8],
-    words: &mut [u64],
-    text: &mut [u8],
-    flow: Flow,
-) -> Flow
-    requires { Runs flow (length taken.old) (length gathered.old) }
-    ensures { Runs result (length taken.old) (length gathered.old) }
-{
-    let input = flow.input;
-    let output = flow.output;
-    let l = next(stdin, taken, input, line);
-    let rest = l.rest;
-    if l.none {
-        return line_flow::ended(gathered, rest, output);
-    }
-    let len = l.len;
-    if l.long {
-        let told = put(gathered, output, b"no line\n");
-        return line_flow::answered(gathered, rest, told);
-    }
-    let told = answer(gathered, output, &line[..len], down, up, words, text);
-    line_flow::answered(gathered, rest, told)
 }
 
 fn answer(
-    gathered: &mut [u8],
-    output: Output,
+    output: &mut Output,
     line: &[u8],
     down: &mut [u8],
     up: &mut [u8],
     words: &mut [u64],
     text: &mut [u8],
-) -> Output
-    requires { output.len ≤ length gathered.old }
-    ensures { result.len ≤ length gathered.old }
-{
-    let c = asked::read(line, down, up, words, text.len());
-    if !c.good {
-        return put(gathered, output, b"no line\n");
+) {
+    match asked::read(line, down, up, words, text.len()) {
+        Some(asked) => show(output, asked, &mut text[..asked.room]),
+        None => output.put(b"no line\n"),
     }
-    let downs = c.downs;
-    let ups = c.ups;
-    let count = c.count;
-    let room = c.room;
-    show(
-        gathered,
-        output,
-        &words[..count],
-        &down[..downs],
-        &up[..ups],
-        &mut text[..room],
-    )
 }
 
-fn show(
-    gathered: &mut [u8],
-    output: Output,
-    words: &[u64],
-    down: &[u8],
-    up: &[u8],
-    text: &mut [u8],
-) -> Output
-    requires { output.len ≤ length gathered.old }
-    ensures { result.len ≤ length gathered.old }
-{
-    match screen_lines(words, down, up, text) {
+fn show(output: &mut Output, asked: Asked, text: &mut [u8]) {
+    match screen_lines(asked.words, asked.down, asked.up, text) {
         Ok(bytes) => {
-            let told = labelled(gathered, output, b"shown ", bytes as u64);
-            let told = put(gathered, told, b"\n");
-            if text.len() < bytes {
-                return told;
+            labelled(output, b"shown ", bytes as u64);
+            output.put(b"\n");
+            if let Some(shown) = text.get(..bytes) {
+                output.put(shown);
             }
-            put(gathered, told, &text[..bytes])
         }
         Err(refusal) => {
-            let told = labelled(gathered, output, b"no ", refusal.number());
-            let told = labelled(gathered, told, b" ", bytes_needed(refusal) as u64);
-            put(gathered, told, b"\n")
+            labelled(output, b"no ", refusal.number());
+            labelled(output, b" ", bytes_needed(refusal) as u64);
+            output.put(b"\n");
         }
     }
 }
