@@ -58,14 +58,12 @@ pub fn string(label: &[u8], frame: &[u8], c: Cursor) -> Cursor {
 
 fn characters(frame: &[u8], c: Cursor, n: usize) -> Cursor {
     let mut d = c;
-    let mut i = 0;
-    while i < n {
+    for _ in 0..n {
         let g = next(frame, d, 7);
         d = g.c;
         if d.why == 0 {
             letter(g.v);
         }
-        i += 1;
     }
     d
 }

@@ -17,9 +17,8 @@ fn codes() {
 
 // Behind the kind, 3: twelve digits of four bits, told as a text.
 fn channels() {
-    let mut before = 0;
-    while before < 48 {
+    for digit in 0..12u64 {
+        let before = digit * 4;
         sweep(7, 3 << before, before + 2, 4, 0);
-        before += 4;
     }
 }

@@ -1,15 +1,13 @@
 // A frame by its number: its bytes, the first one highest.
-use super::entries::ask;
-use listing::{put, put_hex};
+use super::entries::{Entry, ask};
+use listing::Line;
 
-pub fn ask_numbered(line: &mut [u8; 1024], entry: u64, bytes: u64, number: u64) -> usize {
-    if bytes == 0 {
-        return ask(line, entry, &[]);
+pub fn ask_numbered(entry: Entry, bytes: u64, number: u64) -> Line {
+    match bytes {
+        0 => ask(entry, &[]),
+        1 => ask(entry, &[octet(number)]),
+        _ => ask(entry, &[octet(number / 256), octet(number)]),
     }
-    if bytes == 1 {
-        return ask(line, entry, &[octet(number)]);
-    }
-    ask(line, entry, &[octet(number / 256), octet(number)])
 }
 
 fn octet(number: u64) -> u8 {
@@ -17,12 +15,10 @@ fn octet(number: u64) -> u8 {
 }
 
 // The empty frame is `-`.
-pub fn put_frame(line: &mut [u8; 1024], n: usize, bytes: u64, number: u64) -> usize {
-    if bytes == 0 {
-        return put(line, n, b'-');
+pub fn put_frame(line: &mut Line, bytes: u64, number: u64) {
+    match bytes {
+        0 => line.put(b'-'),
+        1 => line.put_hex(number, 2),
+        _ => line.put_hex(number, 4),
     }
-    if bytes == 1 {
-        return put_hex(line, n, number, 2);
-    }
-    put_hex(line, n, number, 4)
 }

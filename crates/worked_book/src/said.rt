@@ -1,53 +1,49 @@
 // What a line says of an answer.
 use counted_books::free_places;
-use listing::{put, put_decimal, put_text};
+use listing::Line;
 
 // The number of free places ends a line.
-pub fn end(line: &mut [u8; 1024], n: usize, book: &[u32]) {
-    let mut m = put_text(line, n, b", free ");
-    m = match free_places(book) {
-        Ok(count) => put_decimal(line, m, count),
-        Err(refusal) => put_refusal(line, m, refusal.number()),
-    };
-    listing::write(line, m);
+pub fn end(mut line: Line, book: &[u32]) {
+    line.put_text(b", free ");
+    match free_places(book) {
+        Ok(count) => line.put_decimal(count),
+        Err(refusal) => put_refusal(&mut line, refusal.number()),
+    }
+    line.write();
 }
 
-fn put_refusal(line: &mut [u8; 1024], n: usize, number: u64) -> usize {
-    let m = put_text(line, n, b"no ");
-    put_decimal(line, m, number)
+fn put_refusal(line: &mut Line, number: u64) {
+    line.put_text(b"no ");
+    line.put_decimal(number);
 }
 
-pub fn put_loaded(line: &mut [u8; 1024], answer: Result<usize, loaded_books::Refusal>) -> usize {
+pub fn put_loaded(line: &mut Line, answer: Result<usize, loaded_books::Refusal>) {
     match answer {
         Ok(names) => {
-            let m = put_text(line, 0, b"loaded ");
-            put_decimal(line, m, names as u64)
+            line.put_text(b"loaded ");
+            line.put_decimal(names as u64);
         }
-        Err(refusal) => put_refusal(line, 0, refusal.number()),
+        Err(refusal) => put_refusal(line, refusal.number()),
     }
 }
 
-pub fn put_withdrawn(line: &mut [u8; 1024], answer: Result<(), name_book::Refusal>) -> usize {
+pub fn put_withdrawn(line: &mut Line, answer: Result<(), name_book::Refusal>) {
     match answer {
-        Ok(()) => put_text(line, 0, b"gone"),
-        Err(refusal) => put_refusal(line, 0, refusal.number()),
+        Ok(()) => line.put_text(b"gone"),
+        Err(refusal) => put_refusal(line, refusal.number()),
     }
 }
 
-pub fn put_saved(
-    line: &mut [u8; 1024],
-    answer: Result<usize, saved_books::Refusal>,
-    out: &[u8],
-) -> usize {
+pub fn put_saved(line: &mut Line, answer: Result<usize, saved_books::Refusal>, out: &[u8]) {
     match answer {
         Ok(bytes) => {
-            let m = put_text(line, 0, b"wrote");
-            put_lines(line, m, out, bytes)
+            line.put_text(b"wrote");
+            put_lines(line, out, bytes);
         }
         Err(refusal) => {
-            let mut m = put_refusal(line, 0, refusal.number());
-            m = put_text(line, m, b" ");
-            put_decimal(line, m, need(refusal) as u64)
+            put_refusal(line, refusal.number());
+            line.put_text(b" ");
+            line.put_decimal(need(refusal) as u64);
         }
     }
 }
@@ -61,17 +57,9 @@ fn need(refusal: saved_books::Refusal) -> usize {
 }
 
 // The first k bytes of a saved text, a space for each line feed.
-fn put_lines(line: &mut [u8; 1024], n: usize, text: &[u8], k: usize) -> usize {
-    let mut m = put(line, n, b' ');
-    for byte in text.iter().take(k) {
-        m = put_byte(line, m, *byte);
+fn put_lines(line: &mut Line, text: &[u8], k: usize) {
+    line.put(b' ');
+    for &byte in text.iter().take(k) {
+        line.put(if byte == b'\n' { b' ' } else { byte });
     }
-    m
-}
-
-fn put_byte(line: &mut [u8; 1024], n: usize, byte: u8) -> usize {
-    if byte == b'\n' {
-        return put(line, n, b' ');
-    }
-    put(line, n, byte)
 }

@@ -23,14 +23,8 @@ fn number(label: &[u8], n: u64) {
 }
 
 fn octets(frame: &[u8]) {
-    let mut i = 0;
-    while i < frame.len() {
+    for &octet in frame {
         io::write_all(1, b" ");
-        io::print_hex(1, wide(frame[i]), 2);
-        i += 1;
+        io::print_hex(1, u64::from(octet), 2);
     }
-}
-
-fn wide(x: u8) -> u64 {
-    x as u64
 }

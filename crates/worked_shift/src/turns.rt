@@ -1,5 +1,5 @@
 // A call with its line.
-use listing::{put_decimal, put_text};
+use listing::Line;
 use station::{Offered, Shift, offer};
 
 // The shift with the call counted. Each table has one element, without an argument.
@@ -20,36 +20,36 @@ pub fn turn(
 }
 
 fn print(station: u64, number: u32, arrived: usize, name: &[u8], answer: Offered) {
-    let mut line = listing::new();
-    let mut n = put_text(&mut line, 0, b"station ");
-    n = put_decimal(&mut line, n, station);
-    n = put_text(&mut line, n, b", number ");
-    n = put_decimal(&mut line, n, number as u64);
-    n = put_text(&mut line, n, b", ");
-    n = put_decimal(&mut line, n, arrived as u64);
-    n = put_text(&mut line, n, b" bits of ");
-    n = put_text(&mut line, n, name);
-    n = put_text(&mut line, n, b": ");
-    n = put_answer(&mut line, n, answer);
-    listing::write(&mut line, n);
+    let mut line = Line::new();
+    line.put_text(b"station ");
+    line.put_decimal(station);
+    line.put_text(b", number ");
+    line.put_decimal(number as u64);
+    line.put_text(b", ");
+    line.put_decimal(arrived as u64);
+    line.put_text(b" bits of ");
+    line.put_text(name);
+    line.put_text(b": ");
+    put_answer(&mut line, answer);
+    line.write();
 }
 
-fn put_answer(line: &mut [u8; 1024], n: usize, answer: Offered) -> usize {
+fn put_answer(line: &mut Line, answer: Offered) {
     match answer {
-        Offered::Bound => put_text(line, n, b"bound"),
+        Offered::Bound => line.put_text(b"bound"),
         Offered::Repeated { number } => {
-            let m = put_text(line, n, b"repeated ");
-            put_decimal(line, m, number as u64)
+            line.put_text(b"repeated ");
+            line.put_decimal(number as u64);
         }
         Offered::Refused {
             number,
             reach,
             lacked: _,
         } => {
-            let mut m = put_text(line, n, b"no ");
-            m = put_decimal(line, m, number);
-            m = put_text(line, m, b" ");
-            put_decimal(line, m, reach as u64)
+            line.put_text(b"no ");
+            line.put_decimal(number);
+            line.put_text(b" ");
+            line.put_decimal(reach as u64);
         }
     }
 }

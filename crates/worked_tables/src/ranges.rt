@@ -1,6 +1,6 @@
 // Ranges of more characters and bits than any frame holds: a size that is there is read, and one that is not has run out. And a count of no bits, of which nothing is told.
 use answers::Answer;
-use listing::{new, print_case, put_decimal, put_text, write};
+use listing::{Line, print_case};
 use schema_reader::parse_by_table;
 
 const MILLION: [u64; 4] = [2, 1, 0, 1048576];
@@ -57,11 +57,11 @@ fn show(name: &[u8], frame: &[u8], nodes: &[u64]) {
 fn lacks(name: &[u8], frame: &[u8], nodes: &[u64]) {
     let mut words = [0u64; 160];
     let answer = parse_by_table(frame, nodes, &mut words);
-    let mut line = new();
-    let mut n = put_text(&mut line, 0, name);
-    n = put_text(&mut line, n, b", bits lacked: ");
-    n = put_decimal(&mut line, n, bits_lacked(answer) as u64);
-    write(&mut line, n);
+    let mut line = Line::new();
+    line.put_text(name);
+    line.put_text(b", bits lacked: ");
+    line.put_decimal(bits_lacked(answer) as u64);
+    line.write();
 }
 
 fn bits_lacked(answer: Answer) -> usize {
