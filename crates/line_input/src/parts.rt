@@ -1,11 +1,16 @@
 // What a line is put into as it is read, a part after another.
-ghost use Rattle.std.specs.Prelude.{◌≤◌, ◌*◌, length};
+ghost use Rattle.std.specs.Prelude.{◌≡◌, ◌≤◌, ◌*◌, true, List, [], ◌++◌, ℕ, length, Some, Err, IfSome, IfOk, IfErr, IsNone, ◌↔◌};
+ghost use Rattle.hexadecimal.specs.Hex.{octets, Decodes};
 
 use hexadecimal::Refusal;
 use hexadecimal::stretches::{Digits, more, start, whole};
 
 pub trait Parts {
-    fn add(&mut self, part: &[u8]);
+    // What a part more makes of what there is.
+    ghost adds: { Self → List ℕ → Self → Type 0 };
+
+    fn add(&mut self, part: &[u8])
+        ensures { adds self.old part.now self.new };
 }
 
 // The bytes of a line, as far as the lent ones have room; whether it was longer.
@@ -18,7 +23,11 @@ pub struct Bytes<'a> {
 }
 
 impl<'a> Bytes<'a> {
-    pub fn new(space: &'a mut [u8]) -> Bytes<'a> {
+    ghost use Rattle.line_input.specs.Parts.{Holds};
+
+    pub fn new(space: &'a mut [u8]) -> Bytes<'a>
+        ensures { Holds [] result }
+    {
         Bytes {
             space,
             len: 0,
@@ -27,7 +36,10 @@ impl<'a> Bytes<'a> {
     }
 
     // The line, if it had room.
-    pub fn line(&self) -> Option<&[u8]> {
+    pub fn line(&self) -> Option<&[u8]>
+        ensures long { IsNone result ↔ (self.now.long ≡ true) }
+        ensures line { (text : List ℕ) → Holds text self.now → IfSome result (λ t. t.now ≡ text) }
+    {
         if self.long {
             None
         } else {
@@ -37,6 +49,10 @@ impl<'a> Bytes<'a> {
 }
 
 impl Parts for Bytes<'_> {
+    ghost use Rattle.line_input.specs.Parts.{Holds};
+
+    ghost adds = { λ old part new. (text : List ℕ) → Holds text old → Holds (text ++ part) new };
+
     fn add(&mut self, part: &[u8]) {
         let len = self.len;
         let count = part.len().min(self.space.len() - len);
@@ -57,7 +73,11 @@ pub struct Octets<'a> {
 }
 
 impl<'a> Octets<'a> {
-    pub fn new(frame: &'a mut [u8]) -> Octets<'a> {
+    ghost use Rattle.line_input.specs.Parts.{Fills};
+
+    pub fn new(frame: &'a mut [u8]) -> Octets<'a>
+        ensures { Fills [] result }
+    {
         Octets {
             frame,
             digits: start(),
@@ -65,13 +85,22 @@ impl<'a> Octets<'a> {
     }
 
     // The octets, if the line has any and they had room.
-    pub fn frame(&self) -> Result<&[u8], Refusal> {
-        let n = whole(self.digits)?;
-        Ok(&self.frame[..n])
+    pub fn frame(&self) -> Result<&[u8], Refusal>
+        ensures octets { (text : List ℕ) → Fills text self.now → IfOk result (λ o. octets text ≡ Some o.now) }
+        ensures refused { (text : List ℕ) → Fills text self.now → IfErr result (λ r. Decodes text self.now.frame.now (Err r)) }
+    {
+        match whole(self.digits) {
+            Ok(n) => Ok(&self.frame[..n]),
+            Err(refusal) => Err(refusal),
+        }
     }
 }
 
 impl Parts for Octets<'_> {
+    ghost use Rattle.line_input.specs.Parts.{Fills};
+
+    ghost adds = { λ old part new. (text : List ℕ) → Fills text old → Fills (text ++ part) new };
+
     fn add(&mut self, part: &[u8]) {
         self.digits = more(self.digits, part, self.frame);
     }

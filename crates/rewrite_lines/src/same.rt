@@ -30,12 +30,10 @@ fn same_bits(a: &[u8], b: &[u8], n: usize) -> bool
     requires { (n ≤ length a.now * 8) × (n ≤ length b.now * 8) }
     ensures { (result ≡ true → SameBits a.now b.now n) × (SameBits a.now b.now n → result ≡ true) }
 {
-    let mut i = 0;
-    while i < n {
+    for i in 0..n {
         if uint(a, i, 1) != uint(b, i, 1) {
             return false;
         }
-        i += 1;
     }
     true
 }
