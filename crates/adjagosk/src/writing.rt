@@ -39,14 +39,10 @@ fn in_frame(a: Result<usize, Refusal>) -> Frame
             bits,
             need: 0,
         },
-        Err(refusal) => {
-            let number = refusal.number();
-            let need = refusal.need();
-            Frame {
-                refused: number,
-                bits: 0,
-                need,
-            }
-        }
+        Err(refusal) => Frame {
+            refused: refusal.number(),
+            bits: 0,
+            need: refusal.need(),
+        },
     }
 }
