@@ -89,12 +89,12 @@ closes-at : (phrase : List ℕ) {i j : ℕ} → Placed 91 phrase i → Placed 93
 unfolding close
 closes-at phrase {i} {j} p q = rw (← p.is) (ap (λ (k : ℕ). i + k) (sym (rw (tail phrase i) at q.is)))
 
-pub closed : (phrase : List ℕ) {i j : ℕ} → Placed 91 phrase i → Placed 93 (take (length phrase - i) (drop i phrase)) j → i + j < length phrase → Bracketed phrase (Some (record { opens = i; closes = i + j }))
+pub closed : (phrase : List ℕ) {i j : ℕ} → Placed 91 phrase i → Placed 93 (take (length phrase - i) (drop i phrase)) j → i + j < length phrase → Bracketed phrase (record { opens = i; closes = Some (i + j) })
 closed phrase p q h =
     let e = closes-at phrase p q in
-    record { there = record { open_is = p.is; close_is = sym e; order = omega arith; within = h }; none = tt }
+    record { open_is = p.is; closed = record { close_is = sym e; order = omega arith; within = h }; unclosed = tt; within = p.within }
 
-pub unclosed : (phrase : List ℕ) {i j : ℕ} → Placed 91 phrase i → Placed 93 (take (length phrase - i) (drop i phrase)) j → length phrase ≤ i + j → Bracketed phrase None
+pub unclosed : (phrase : List ℕ) {i j : ℕ} → Placed 91 phrase i → Placed 93 (take (length phrase - i) (drop i phrase)) j → length phrase ≤ i + j → Bracketed phrase (record { opens = i; closes = None })
 unclosed phrase {i} {j} p q h =
     let e = closes-at phrase p q in
-    record { there = tt; none = omega (arith, e, p.within, q.within, length-take (length phrase - i) (drop i phrase), length-drop i phrase) }
+    record { open_is = p.is; closed = tt; unclosed = omega (arith, e, p.within, q.within, length-take (length phrase - i) (drop i phrase), length-drop i phrase); within = p.within }

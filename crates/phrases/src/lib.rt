@@ -9,11 +9,11 @@ ghost use Rattle.phrases.specs.Found.{Placed, Bracketed};
 
 use screen_bytes::put_text;
 
-// A bracket of a phrase: where it opens and where it closes.
+// The first bracket of a phrase: where it opens, the phrase's length where none does; and where it closes, if it does.
 #[derive(Clone, Copy)]
 pub struct Bracket {
     pub opens: usize,
-    pub closes: usize,
+    pub closes: Option<usize>,
 }
 
 // The place of the first c in a text.
@@ -60,14 +60,19 @@ pub fn put_line(out: &mut [u8], at: usize, table: &[u8], index: u64) -> usize
     }
 }
 
-// The first bracket, if it is closed.
-pub fn first_bracket(phrase: &[u8]) -> Option<Bracket>
+pub fn first_bracket(phrase: &[u8]) -> Bracket
     ensures { Bracketed phrase.now result }
 {
     let opens = place(phrase, b'[');
     let closes = opens + place(&phrase[opens..], b']');
     if phrase.len() <= closes {
-        return None;
+        return Bracket {
+            opens,
+            closes: None,
+        };
     }
-    Some(Bracket { opens, closes })
+    Bracket {
+        opens,
+        closes: Some(closes),
+    }
 }

@@ -10,8 +10,7 @@ use Rattle.element_kinds.specs.Kinds.{byte}
 use Rattle.element_kinds.specs.declared.Kind.{Kind}
 use Rattle.element_kinds.specs.declared.Kind.TheVariants.{Position, Speed, SpeedType, ThreeSpeedTypes, Level, Degrees, Frequency, Code, TrafficType, ClearanceType, ErrorInformation, FacilityFunction, Procedure, Runway, Coordinates, DepartureClearance}
 use Rattle.atn.specs.Reading.{Rec}
-use Rattle.phrases.specs.declared.Bracket.{Bracket}
-use Rattle.phrases.specs.Phrases.{close, fill}
+use Rattle.phrases.specs.Phrases.{place, close, fill}
 use Rattle.phrases.specs.Found.{Closed}
 use Rattle.phrases.proofs.PhraseLaws.{tail}
 use Rattle.screen_elements.specs.Lines.{argument, value_count, values}
@@ -28,20 +27,20 @@ fill-all n kind R p h e =
     let c : length p ≤ close p = omega (arith, e) in
     rw (m, le-ltb (close p) (length p) c)
 
-module _ (n kind : ℕ) (R : List Rec) (p : List ℕ) {b : Bracket} (h : n ≡ 0 → ⊥) (f : Closed p b) where
+module _ (n kind : ℕ) (R : List Rec) (p : List ℕ) {i k : ℕ} (h : n ≡ 0 → ⊥) (o : i ≡ place 91 p) (f : Closed p i k) where
   one_more : n ≡ suc (n - 1)
   one_more = omega arith
 
   -- the first bracket takes the next value
-  pub fill_more : fill (values n kind R) p ≡ take b.opens p ++ argument kind R ++ fill (values (n - 1) kind (drop 1 R)) (take (length p - (b.closes + 1)) (drop (b.closes + 1) p))
+  pub fill_more : fill (values n kind R) p ≡ take i p ++ argument kind R ++ fill (values (n - 1) kind (drop 1 R)) (take (length p - (k + 1)) (drop (k + 1) p))
   unfolding fill values
   fill_more =
       let c : close p < length p = rw f.close_is at f.within in
-      ap (λ (k : ℕ). fill (values k kind R) p) one_more ∙ rw (lt-ltb (close p) (length p) c, tail p (b.closes + 1), f.open_is, f.close_is)
+      ap (λ (j : ℕ). fill (values j kind R) p) one_more ∙ rw (lt-ltb (close p) (length p) c, tail p (k + 1), o, f.close_is)
 
 -- how long the parts of a phrase are, before its first bracket and behind it
-pub front : {p : List ℕ} {b : Bracket} → Closed p b → length (take b.opens p) ≡ b.opens
-front {p} {b} f = length-take-le b.opens p (omega (arith, f.order, f.within))
+pub front : (p : List ℕ) {i : ℕ} → i ≤ length p → length (take i p) ≡ i
+front p {i} h = length-take-le i p h
 
 pub behind : (p : List ℕ) (k : ℕ) → length (take (length p - (k + 1)) (drop (k + 1) p)) ≡ length p - (k + 1)
 behind p k = ap length (tail p (k + 1)) ∙ length-drop (k + 1) p

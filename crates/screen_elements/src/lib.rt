@@ -80,13 +80,12 @@ fn put_filled(
     if n == 0 {
         return put_text(out, at, phrase);
     }
-    match first_bracket(phrase) {
-        Some(bracket) => {
-            let opens = bracket.opens;
-            let rest = bracket.closes + 1;
-            let a = put_text(out, at, &phrase[..opens]);
+    let bracket = first_bracket(phrase);
+    match bracket.closes {
+        Some(closes) => {
+            let a = put_text(out, at, &phrase[..bracket.opens]);
             let b = put_argument(out, a, words, i, kind);
-            put_filled(out, b, words, i + 1, kind, n - 1, &phrase[rest..])
+            put_filled(out, b, words, i + 1, kind, n - 1, &phrase[closes + 1..])
         }
         None => put_text(out, at, phrase),
     }
