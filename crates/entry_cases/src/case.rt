@@ -1,5 +1,5 @@
 // A case: `ENTRY DIR DOWNTABLE UPTABLE FRAME ROOM`.
-ghost use Rattle.std.specs.Prelude.{◌≤◌, IfSome};
+ghost use Rattle.std.specs.Prelude.{◌≤◌, length, IfSome};
 
 use super::fields::{field, octets};
 use decimal::number;
@@ -24,7 +24,10 @@ pub fn read<'a>(
     frame: &'a mut [u8],
     most: usize,
 ) -> Option<Case<'a>>
-    ensures { IfSome result (λ c. c.room ≤ most) }
+    ensures down { IfSome result (λ c. length c.down.now ≤ length down.old) }
+    ensures up { IfSome result (λ c. length c.up.now ≤ length up.old) }
+    ensures frame { IfSome result (λ c. length c.frame.now ≤ length frame.old) }
+    ensures room { IfSome result (λ c. c.room ≤ most) }
 {
     let (name, rest) = field(line);
     let (way, rest) = field(rest?);

@@ -1,5 +1,5 @@
 // A line: `DOWN UP ROOM WORD..`, the phrases in hexadecimal, the bytes lent for the text and the words of the records in decimal.
-ghost use Rattle.std.specs.Prelude.{◌≤◌, IfSome};
+ghost use Rattle.std.specs.Prelude.{◌≤◌, length, IfSome};
 
 use decimal::number;
 use entry_cases::fields::{field, octets};
@@ -21,7 +21,10 @@ pub fn read<'a>(
     words: &'a mut [u64],
     most: usize,
 ) -> Option<Asked<'a>>
-    ensures { IfSome result (λ a. a.room ≤ most) }
+    ensures down { IfSome result (λ a. length a.down.now ≤ length down.old) }
+    ensures up { IfSome result (λ a. length a.up.now ≤ length up.old) }
+    ensures words { IfSome result (λ a. length a.words.now ≤ length words.old) }
+    ensures room { IfSome result (λ a. a.room ≤ most) }
 {
     let (downs, rest) = field(line);
     let (ups, rest) = field(rest?);
@@ -39,7 +42,9 @@ pub fn read<'a>(
 }
 
 // The numbers of a text, if all are numbers and have room.
-fn numbers<'a>(text: &[u8], words: &'a mut [u64]) -> Option<&'a [u64]> {
+fn numbers<'a>(text: &[u8], words: &'a mut [u64]) -> Option<&'a [u64]>
+    ensures { IfSome result (λ w. length w.now ≤ length words.old) }
+{
     let mut rest = text;
     let mut count = 0;
     while !rest.is_empty() {
