@@ -35,6 +35,7 @@ pub fn sound(book: &[u32]) -> bool
     ensures { listed book.now ≡ cond result (some (entries book.now)) none }
 {
     let mut later = Entries::of(book);
+    // no `for`: those behind an entry are looked at in its turn
     while let Some(e) = later.next() {
         if !is_fair(e, later) {
             return false;

@@ -6,7 +6,7 @@ use std::io::Read;
 
 const NEWLINE: u8 = b'\n';
 
-// The lent bytes from `at` to `end` are read and not yet taken. After a read that failed nothing more is read, and standard error has said so.
+// The lent bytes from `at` to `end` are read and not yet taken. After a read that failed nothing more is read, and standard error has said so. `failed` stays a flag: nothing beside it holds by it alone.
 #[derive(Drop)]
 pub struct Input<'a, R: Read> {
     stdin: &'a mut R,

@@ -13,7 +13,7 @@ pub trait Parts {
         ensures { adds self.old part.now self.new };
 }
 
-// The bytes of a line, as far as the lent ones have room; whether it was longer.
+// The bytes of a line, as far as the lent ones have room; whether it was longer, a flag since more of the line may still come: `line` makes the Option.
 #[derive(Drop)]
 pub struct Bytes<'a> {
     space: &'a mut [u8],
@@ -89,6 +89,7 @@ impl<'a> Octets<'a> {
         ensures octets { (text : List ℕ) → Fills text self.now → IfOk result (λ o. octets text ≡ Some o.now) }
         ensures refused { (text : List ℕ) → Fills text self.now → IfErr result (λ r. Decodes text self.now.frame.now (Err r)) }
     {
+        // a `match`: with `?` what is owed of a refusal stays open
         match whole(self.digits) {
             Ok(n) => Ok(&self.frame[..n]),
             Err(refusal) => Err(refusal),

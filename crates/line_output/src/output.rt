@@ -1,7 +1,7 @@
 // Standard output, gathered in lent bytes. After a write that fails nothing more is written, and standard error has said so.
 ghost use Rattle.std.specs.Prelude.{◌≡◌, ◌≤◌, length};
 
-// The first `len` of the lent bytes are not written yet.
+// The first `len` of the lent bytes are not written yet. `failed` stays a flag: nothing beside it holds by it alone.
 #[derive(Drop)]
 pub struct Output<'a> {
     space: &'a mut [u8],

@@ -84,6 +84,7 @@ fn twice(saved: &[u8]) -> bool
     ensures { (L : List Specs-as-Entry) → lines [] saved.now ≡ some L → result ≡ not (distinct L) }
 {
     let mut later = Lines::of(saved);
+    // no `for`: those behind a line are looked at in its turn
     while let Some(line) = later.next() {
         let Some(e) = line else {
             return false;

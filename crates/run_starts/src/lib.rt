@@ -59,6 +59,7 @@ fn walk(kind: Kind, direction: u64, down: &[u8], up: &[u8], run: &[u8], starts: 
 {
     let mut count = 0;
     let mut at = 0;
+    // no range: where the next message starts is known behind this one
     while at < run.len() {
         let reach = clean_reach(kind, direction, down, up, &run[at..]);
         let Some(bits) = reach else {

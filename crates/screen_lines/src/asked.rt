@@ -47,6 +47,7 @@ fn numbers<'a>(text: &[u8], words: &'a mut [u64]) -> Option<&'a [u64]>
 {
     let mut rest = text;
     let mut count = 0;
+    // no index is counted, and a space at the end makes no further word, as `split` would
     while !rest.is_empty() {
         let (word, behind) = field(rest);
         if count == words.len() {

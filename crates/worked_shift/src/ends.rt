@@ -28,9 +28,9 @@ pub fn free(book: &[u32; 10]) {
 fn put_found(line: &mut Line, found: Result<Option<Frame>, Refusal>) {
     match found {
         Ok(Some(frame)) => {
-            line.put_decimal(frame.number as u64);
+            line.put_decimal(u64::from(frame.number));
             line.put_text(b" ");
-            line.put_decimal(frame.bytes as u64);
+            line.put_decimal(u64::from(frame.bytes));
         }
         Ok(None) => line.put_text(b"nowhere"),
         Err(refusal) => put_refusal(line, refusal.number()),

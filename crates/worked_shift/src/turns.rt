@@ -24,7 +24,7 @@ fn print(station: u64, number: u32, arrived: usize, name: &[u8], answer: Offered
     line.put_text(b"station ");
     line.put_decimal(station);
     line.put_text(b", number ");
-    line.put_decimal(number as u64);
+    line.put_decimal(u64::from(number));
     line.put_text(b", ");
     line.put_decimal(arrived as u64);
     line.put_text(b" bits of ");
@@ -39,7 +39,7 @@ fn put_answer(line: &mut Line, answer: Offered) {
         Offered::Bound => line.put_text(b"bound"),
         Offered::Repeated { number } => {
             line.put_text(b"repeated ");
-            line.put_decimal(number as u64);
+            line.put_decimal(u64::from(number));
         }
         Offered::Refused {
             number,
