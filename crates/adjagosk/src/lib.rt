@@ -1,4 +1,4 @@
-// The four entries, and the writer, for programs in C and Rust: the crate adjagosk_c exports them, and include/adjagosk.h beside src/ has them for C. A slice is a pointer and a length there.
+// The four entries, and the writer, for programs in C and Rust: the crate adjagosk_c exports them, and include/adjagosk.h beside src/ has them for C. A slice is a pointer and a length there; directions, kinds and refusals are numbers, as the C interface has them.
 #![tactic(auto)]
 
 ghost use Rattle.std.specs.Prelude.{◌≡◌};

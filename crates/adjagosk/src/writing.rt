@@ -1,4 +1,4 @@
-// The writer of fixture frames for programs in C and Rust.
+// The writer of fixture frames for programs in C and Rust. Kinds, directions and refusals are numbers, as the C interface has them.
 ghost use Rattle.std.specs.Prelude.{◌≡◌};
 ghost use Rattle.record_lists.specs.Message.{write_message};
 ghost use Rattle.fixture_writer.specs.Says.{answer_of};

@@ -1,4 +1,4 @@
-// What C and Rust link: each export calls the function of the library `adjagosk` by its name, and says what that says. include/adjagosk.h of that crate has them for C.
+// What C and Rust link: each export calls the function of the library `adjagosk` by its name, and says what that says. include/adjagosk.h of that crate has them for C; directions are numbers there.
 #![tactic(auto)]
 
 ghost use Rattle.atn.specs.Entries.{parse_apdu, parse_pdus, parse_cm, parse_acse_apdu};

@@ -1,4 +1,4 @@
-// The writer of fixture frames for programs in C and Rust.
+// The writer of fixture frames for programs in C and Rust; kinds and directions are numbers, as the C interface has them.
 ghost use Rattle.record_lists.specs.Message.{write_message};
 ghost use Rattle.adjagosk.specs.Frames.{FillsFrame};
 
