@@ -9,7 +9,12 @@ use Rattle.saved_books.specs.declared.Refusal.TheVariants.{NotABook, TooFewBytes
 -- the number of a refusal in docs/REFUSALS.md
 abbrev pub number : Refusal → ℕ
 number NotABook = 18
-number (TooFewBytes need) = 9
+number (TooFewBytes n) = 9
+
+-- the bytes needed, which only 9 has
+abbrev pub need : Refusal → ℕ
+need NotABook = 0
+need (TooFewBytes n) = n
 
 -- "9, too few bytes to save into", with the number needed
 unfoldable pub settled : List ℕ → List ℕ → Result ℕ Refusal × List ℕ

@@ -5,7 +5,7 @@ ghost use Rattle.std.specs.Prelude.{◌≡◌, true, ◌≤◌, length};
 ghost use Rattle.book_entries.specs.Book.{entries, orderly};
 ghost use Rattle.book_lines.specs.Lines.{saved, put};
 ghost use Rattle.name_book.specs.Calls.{Leaves};
-ghost use Rattle.saved_books.specs.Saves.{number, settled, save as Saves·save};
+ghost use Rattle.saved_books.specs.Saves.{number, need, settled, save as Saves·save};
 
 use book_entries::Entries;
 use book_lines::{name_digits, put_line};
@@ -26,6 +26,16 @@ impl Refusal {
         match self {
             Refusal::NotABook => 18,
             Refusal::TooFewBytes { need: _ } => 9,
+        }
+    }
+
+    // The bytes needed, where too few are lent; else 0.
+    pub fn need(self) -> usize
+        ensures { result ≡ need self }
+    {
+        match self {
+            Refusal::TooFewBytes { need } => need,
+            Refusal::NotABook => 0,
         }
     }
 }

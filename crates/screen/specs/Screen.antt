@@ -11,7 +11,12 @@ use Rattle.screen.specs.declared.Refusal.TheVariants.{NotGiven, TooFewBytes}
 -- the number of a refusal, by docs/REFUSALS.md
 abbrev pub number : Refusal → ℕ
 number NotGiven = 13
-number (TooFewBytes need) = 14
+number (TooFewBytes n) = 14
+
+-- the bytes needed, which only 14 has
+abbrev pub need : Refusal → ℕ
+need NotGiven = 0
+need (TooFewBytes n) = n
 
 -- no reading gives 2^40 words; no machine has 2^44 bytes of phrases, and a table that long is taken for none
 unfoldable pub small : List ℕ → List ℕ → List ℕ → Bool

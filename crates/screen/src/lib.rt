@@ -2,7 +2,7 @@
 #![tactic(auto)]
 
 ghost use Rattle.std.specs.Prelude.{◌≡◌};
-ghost use Rattle.screen.specs.Screen.{number, small, given, screen_lines};
+ghost use Rattle.screen.specs.Screen.{number, need, small, given, screen_lines};
 
 use element_kinds::elements_agree;
 use record_grammar::hearing::are_formed;
@@ -27,10 +27,19 @@ impl Refusal {
             Refusal::TooFewBytes { .. } => 14,
         }
     }
+
+    // The bytes needed, where too few are lent; else 0.
+    pub fn need(self) -> usize
+        ensures { result ≡ need self }
+    {
+        match self {
+            Refusal::TooFewBytes { need } => need,
+            Refusal::NotGiven => 0,
+        }
+    }
 }
 
-// How many bytes were written.
-// `words` is the whole list of records; `down` and `up` are the phrases of the aircraft's and the ground's elements, one a line.
+// Answers how many bytes were written. `words` is the whole list of records; `down` and `up` are the phrases of the aircraft's and the ground's elements, one a line.
 pub fn screen_lines(words: &[u64], down: &[u8], up: &[u8], out: &mut [u8]) -> Result<usize, Refusal>
     ensures { (result, out.new) ≡ screen_lines words.now down.now up.now out.old }
 {

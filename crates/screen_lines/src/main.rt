@@ -6,7 +6,7 @@ use line_input::input::Input;
 use line_input::parts::Bytes;
 use line_output::output::Output;
 use lines::said::labelled;
-use screen::{Refusal, screen_lines};
+use screen::screen_lines;
 use std::io::Read;
 
 mod asked; // asked.rt: what a line asks
@@ -81,16 +81,8 @@ fn show(output: &mut Output, asked: Asked, text: &mut [u8]) {
         }
         Err(refusal) => {
             labelled(output, b"no ", refusal.number());
-            labelled(output, b" ", bytes_needed(refusal) as u64);
+            labelled(output, b" ", refusal.need() as u64);
             output.put(b"\n");
         }
-    }
-}
-
-// 0 where the refusal is not for want of bytes.
-fn bytes_needed(refusal: Refusal) -> usize {
-    match refusal {
-        Refusal::NotGiven => 0,
-        Refusal::TooFewBytes { need } => need,
     }
 }

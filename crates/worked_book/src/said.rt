@@ -43,16 +43,8 @@ pub fn put_saved(line: &mut Line, answer: Result<usize, saved_books::Refusal>, o
         Err(refusal) => {
             put_refusal(line, refusal.number());
             line.put_text(b" ");
-            line.put_decimal(need(refusal) as u64);
+            line.put_decimal(refusal.need() as u64);
         }
-    }
-}
-
-// The bytes needed, 0 where it is not for them that nothing is saved.
-fn need(refusal: saved_books::Refusal) -> usize {
-    match refusal {
-        saved_books::Refusal::TooFewBytes { need } => need,
-        saved_books::Refusal::NotABook => 0,
     }
 }
 
