@@ -1,5 +1,5 @@
 -- The octets of a word as characters.
-use Rattle.std.specs.Prelude.{Bool, true, false, cond, ◌&&◌, ℕ, zero, suc, ◌-◌, ◌/◌, ◌%◌, leb, ltb, eqb}
+use Rattle.std.specs.Prelude.{Bool, true, false, cond, ◌&&◌, ℕ, zero, suc, ◌-◌, ◌/◌, ◌%◌, leb, ltb, eqb, Option, Some, None}
 use Rattle.record_grammar.specs.declared.octets.Rule.{Rule}
 use Rattle.record_grammar.specs.declared.octets.Rule.TheVariants.{Ia5, Channel, Digits, Spaced}
 
@@ -11,12 +11,13 @@ within low size v = leb low v && ltb (v - low) size
 unfoldable pub spaced_one : ℕ → ℕ
 spaced_one a = cond (eqb a 48) 32 (a - 1)
 
--- the number of a rule
-abbrev pub rule_number : Rule → ℕ
-rule_number Ia5 = 0
-rule_number Channel = 1
-rule_number Digits = 2
-rule_number Spaced = 3
+-- the number of a rule; without one 4, by which nothing fits
+abbrev pub rule_number : Option Rule → ℕ
+rule_number (Some Ia5) = 0
+rule_number (Some Channel) = 1
+rule_number (Some Digits) = 2
+rule_number (Some Spaced) = 3
+rule_number None = 4
 
 -- a character by a rule: 0 IA5; 1 a raw from 0 to 15 as the source has it; 2 a raw from 0 to 10; 3 X.680's for the octet a of another word
 unfoldable pub octet_fits : ℕ → ℕ → ℕ → Bool

@@ -33,19 +33,20 @@ fn spaced_one(a: u64) -> u64
 }
 
 #[tactic(auto, unfolding(crate::specs::Octets::octet_fits))]
-fn octet_fits(rule: Rule, a: u64, b: u64) -> bool
+fn octet_fits(rule: Option<Rule>, a: u64, b: u64) -> bool
     ensures { result ≡ octet_fits (rule_number rule) a b }
 {
     match rule {
-        Rule::Ia5 => b < 128,
-        Rule::Channel => is_within(48, 16, b),
-        Rule::Digits => is_within(48, 11, b),
-        Rule::Spaced => b == spaced_one(a),
+        Some(Rule::Ia5) => b < 128,
+        Some(Rule::Channel) => is_within(48, 16, b),
+        Some(Rule::Digits) => is_within(48, 11, b),
+        Some(Rule::Spaced) => b == spaced_one(a),
+        None => false,
     }
 }
 
 #[tactic(auto, unfolding(crate::specs::Octets::octet_or))]
-fn octet_or(rule: Rule, spare: u64, a: u64, b: u64) -> bool
+fn octet_or(rule: Option<Rule>, spare: u64, a: u64, b: u64) -> bool
     ensures { result ≡ octet_or (rule_number rule) spare a b }
 {
     if spare == 0 {
@@ -54,8 +55,8 @@ fn octet_or(rule: Rule, spare: u64, a: u64, b: u64) -> bool
     b == 0
 }
 
-// Whether v begins with n characters, at most 8, and has no more.
-pub fn characters_fit(rule: Rule, n: u64, u: u64, v: u64) -> bool
+// Whether v begins with n characters, at most 8, and has no more. Without a rule no character fits.
+pub fn characters_fit(rule: Option<Rule>, n: u64, u: u64, v: u64) -> bool
     ensures { result ≡ characters_fit (rule_number rule) n u v }
 {
     let mut spare = OCTETS.saturating_sub(n);

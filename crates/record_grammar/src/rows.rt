@@ -1,5 +1,5 @@
 // Rows of eight numbers, and which records one takes.
-ghost use Rattle.std.specs.Prelude.{◌≡◌, ◌≤◌, ◌<◌, length};
+ghost use Rattle.std.specs.Prelude.{◌≡◌, ◌≤◌, ◌<◌, length, Some};
 ghost use Rattle.record_grammar.specs.Octets.{rule_number};
 ghost use Rattle.record_grammar.specs.Rows.{row_word, row_at, numbered, unheard, length_fits, lettered, spanned, counted, channelled, all_digits, noted, holds, element_kept, element_fits, fits};
 
@@ -79,7 +79,7 @@ fn length_fits(r: Row, s: Walk, x: Record) -> bool
 fn is_lettered(r: Row, s: Walk, x: Record) -> bool
     ensures { result ≡ lettered r s x }
 {
-    length_fits(r, s, x) && characters_fit(Rule::Ia5, still_unheard(s, x), 0, x.value)
+    length_fits(r, s, x) && characters_fit(Some(Rule::Ia5), still_unheard(s, x), 0, x.value)
 }
 
 // A span ends within the longest frame.
@@ -105,16 +105,16 @@ fn is_counted(n: u64, r: Row, x: Record) -> bool
 
 #[tactic(auto, unfolding(crate::specs::Rows::channelled))]
 fn is_channelled(rule: Rule, r: Row, s: Walk, x: Record) -> bool
-    ensures { result ≡ channelled (rule_number rule) r s x }
+    ensures { result ≡ channelled (rule_number (Some rule)) r s x }
 {
-    x.second == 12 && characters_fit(rule, r.low, s.earlier, x.value)
+    x.second == 12 && characters_fit(Some(rule), r.low, s.earlier, x.value)
 }
 
 #[tactic(auto, unfolding(crate::specs::Rows::all_digits))]
 fn is_all_digits(r: Row, s: Walk, x: Record) -> bool
     ensures { result ≡ all_digits r s x }
 {
-    is_channelled(Rule::Digits, r, s, x) && characters_fit(Rule::Digits, 8, 0, s.before)
+    is_channelled(Rule::Digits, r, s, x) && characters_fit(Some(Rule::Digits), 8, 0, s.before)
 }
 
 #[tactic(auto, unfolding(crate::specs::Rows::noted))]
