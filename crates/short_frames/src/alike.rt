@@ -6,9 +6,11 @@ use listing::Line;
 // The frames with the numbers 0 to last.
 pub fn print_runs(entry: Entry, bytes: u64, last: u64) {
     let mut first = 0;
-    let mut before = ask_numbered(entry, bytes, 0);
+    let mut before = Line::new();
+    ask_numbered(&mut before, entry, bytes, 0);
     for number in 0..last {
-        let line = ask_numbered(entry, bytes, number + 1);
+        let mut line = Line::new();
+        ask_numbered(&mut line, entry, bytes, number + 1);
         if before.text() != line.text() {
             print_run(entry, bytes, first, number, &before);
             first = number + 1;

@@ -19,13 +19,11 @@ pub fn put_entry(line: &mut Line, entry: Entry) {
     });
 }
 
-// The answer's text.
-pub fn ask(entry: Entry, frame: &[u8]) -> Line {
+// The answer's text is put. The line is the caller's: one that is handed back would be copied for each frame.
+pub fn ask(line: &mut Line, entry: Entry, frame: &[u8]) {
     let mut words = [0u64; 160];
     let answer = parse(entry, frame, &mut words);
-    let mut line = Line::new();
-    put_answer(&mut line, &words, answer);
-    line
+    put_answer(line, &words, answer);
 }
 
 fn parse(entry: Entry, frame: &[u8], words: &mut [u64; 160]) -> Answer {

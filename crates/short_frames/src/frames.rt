@@ -2,11 +2,11 @@
 use super::entries::{Entry, ask};
 use listing::Line;
 
-pub fn ask_numbered(entry: Entry, bytes: u64, number: u64) -> Line {
+pub fn ask_numbered(line: &mut Line, entry: Entry, bytes: u64, number: u64) {
     match bytes {
-        0 => ask(entry, &[]),
-        1 => ask(entry, &[octet(number)]),
-        _ => ask(entry, &[octet(number / 256), octet(number)]),
+        0 => ask(line, entry, &[]),
+        1 => ask(line, entry, &[octet(number)]),
+        _ => ask(line, entry, &[octet(number / 256), octet(number)]),
     }
 }
 
