@@ -21,9 +21,5 @@ pub fn stayed(words: &[u64], records: usize) -> bool
     if words.len() / 5 < records {
         return false;
     }
-    words
-        .iter()
-        .enumerate()
-        .skip(records * 5)
-        .all(|(i, &word)| word == FIRST + i as u64)
+    (records * 5..words.len()).all(|i| words[i] == FIRST + i as u64)
 }
