@@ -7,15 +7,20 @@ use Prim.Native.Nat.{ℕ, suc, ◌+◌, ◌*◌, ◌-◌, ◌<◌}
 use native.Mathlib.Nat.{le_refl}
 use native.Mathlib.Omega.{arith}
 use borrow.Author.Tests.{ltb-true}
-use lib.Dec.{eqb}
+use lib.Dec.{eqb, ltb}
 use lib.ListN.{length, take, drop, length-drop}
 use lib.Seq.{take_all}
 use Rattle.std.specs.Prelude.{Option, Some, None, is_some}
 use Rattle.std.specs.List.{list_any, list_all, position, position_or_len}
 use Rattle.book_entries.specs.declared.Entry.{Entry}
-use Rattle.book_entries.specs.Entries.{text, size, good}
+use Rattle.book_entries.specs.Entries.{text, size, good, entry_at}
+use Rattle.book_entries.proofs.Places.{from, next_of, last}
 use Rattle.book_entries.proofs.Tests.{holds-place}
 use Rattle.book_entries.specs.Book.{place, holds, named, before, fair, orderly, entries, clear, listed}
+
+-- what a test says of x it says of y
+pub told : {A : Type 0} (test : A → Bool) {x y : A} {r s : Bool} → r ≡ test x → x ≡ y → r ≡ s → test y ≡ s
+told test e p f = rw (← p) (sym e ∙ f)
 
 -- the entry e, with E behind it
 module _ (e : Entry) (E : List Entry) where
@@ -42,9 +47,32 @@ module _ {F E : List Entry} {e : Entry} (is : F ≡ e ∷ E) where
   unfolding orderly
   turn f = rw (is, ← f)
 
+  pub met : (fits : Entry → Bool) → fits e ≡ true → holds fits F ≡ true
+  unfolding holds
+  met fits f = rw (is, f)
+
+  pub passed : (fits : Entry → Bool) → fits e ≡ false → holds fits F ≡ holds fits E
+  unfolding holds
+  passed fits f = rw (is, f)
+
 pub all-orderly : {E : List Entry} → E ≡ [] → orderly E ≡ true
 unfolding orderly
 all-orderly is = rw is
+
+pub nothing : (fits : Entry → Bool) {E : List Entry} → E ≡ [] → holds fits E ≡ false
+unfolding holds
+nothing fits is = rw is
+
+-- behind the last entry there is none
+pub at-end : (w : List ℕ) (i : ℕ) → i ≡ length (entries w) → from w i ≡ []
+at-end w i e = rw e (last w)
+
+-- the entry e and the one at place i
+pub none-behind : (e : Entry) (w : List ℕ) (i : ℕ) → i ≡ length (entries w) → before e (from w i) ≡ true
+none-behind e w i p = rw (at-end w i p)
+
+pub one-behind : (e : Entry) (w : List ℕ) (i : ℕ) → i < length (entries w) → before e (from w i) ≡ ltb e.number (entry_at w i).number
+one-behind e w i p = rw (next_of w i p)
 
 module _ (w : List ℕ) where
   pub unsound : orderly (entries w) ≡ false → listed w ≡ none

@@ -1,12 +1,12 @@
 // What the places of a book hold: the number of their entries, where one stands, and whether the calls can have left such places.
 #![tactic(auto)]
 
-ghost use Rattle.std.specs.Prelude.{◌≡◌, ◌*◌, ◌≤◌, cond, length, position};
+ghost use Rattle.std.specs.Prelude.{◌≡◌, ◌+◌, ◌*◌, ◌≤◌, ◌<◌, cond, drop, length, position};
 ghost use Rattle.std.proofs.Math.Option.{none, some};
+ghost use Rattle.book_entries.specs.Entries.{entry_at};
 ghost use Rattle.book_entries.specs.Book.{holds, named, numbered, before, fair, entries, clear, listed};
-ghost use Rattle.book_entries.specs.Left.{left};
 
-use book_entries::{Entries, Entry, Name};
+use book_entries::{Entries, Name, entry_at};
 
 // How many places are in use.
 pub fn count(book: &[u32]) -> usize
@@ -34,43 +34,52 @@ pub fn find_number(book: &[u32], number: u32) -> Option<usize>
 pub fn sound(book: &[u32]) -> bool
     ensures { listed book.now ≡ cond result (some (entries book.now)) none }
 {
-    let mut later = Entries::of(book);
-    // no `for`: those behind an entry are looked at in its turn
-    while let Some(e) = later.next() {
-        if !is_fair(e, later) {
+    let n = count(book);
+    for i in 0..n {
+        if !is_fair(book, n, i) {
             return false;
         }
     }
-    is_clear(&book[count(book) * 4..])
+    is_clear(&book[n * 4..])
 }
 
-// Whether an entry is good, and those behind it have higher numbers and other names.
-fn is_fair(e: Entry, later: Entries) -> bool
-    ensures { result ≡ fair e (left later.entry) }
+// Whether the entry at place i is good, and those behind it have higher numbers and other names.
+fn is_fair(book: &[u32], n: usize, i: usize) -> bool
+    requires { (n ≡ length (entries book.now)) × (i < n) }
+    ensures { result ≡ fair (entry_at book.now i) (entries (drop ((i + 1) * 4) book.now)) }
 {
+    let e = entry_at(book, i);
     if !e.is_good() {
         return false;
     }
-    if !rises(e, later) {
+    if !rises(book, n, i) {
         return false;
     }
-    !has_name(later, e.name())
+    !has_name(book, n, i + 1, e.name())
 }
 
-// Whether the next entry, if there is one, has a higher number.
-fn rises(e: Entry, mut later: Entries) -> bool
-    ensures { result ≡ before e (left later.entry) }
+// Whether the entry behind place i, if there is one, has a higher number.
+fn rises(book: &[u32], n: usize, i: usize) -> bool
+    requires { (n ≡ length (entries book.now)) × (i < n) }
+    ensures { result ≡ before (entry_at book.now i) (entries (drop ((i + 1) * 4) book.now)) }
 {
-    match later.next() {
-        Some(f) => e.number < f.number,
-        None => true,
+    if n <= i + 1 {
+        return true;
     }
+    entry_at(book, i).number < entry_at(book, i + 1).number
 }
 
-fn has_name(mut later: Entries, name: Name) -> bool
-    ensures { result ≡ holds (named name.text name.size) (left later.entry) }
+// Whether one of n places, from `first` on, has this name. By the places' numbers: an iterator asks of each whether it is in use, which is known, and a book is tested by each pair of its names.
+fn has_name(book: &[u32], n: usize, first: usize, name: Name) -> bool
+    requires { (n ≡ length (entries book.now)) × (first ≤ n) }
+    ensures { result ≡ holds (named name.text name.size) (entries (drop (first * 4) book.now)) }
 {
-    later.any(|f| f.is_named(name))
+    for i in first..n {
+        if entry_at(book, i).is_named(name) {
+            return true;
+        }
+    }
+    false
 }
 
 fn is_clear(words: &[u32]) -> bool

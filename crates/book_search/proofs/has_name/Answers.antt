@@ -1,14 +1,33 @@
-use mathlib.Core.Path.{refl, ◌∙◌}
-use Rattle.std.proofs.Common.{rules}
-use Rattle.std.proofs.lemmas.Iterator.Consumers.{YieldsList-from_first}
-use Rattle.std.proofs.lemmas.Iterator.Search.{any_from_yields_List}
-use borrow.Author.Tests.{tests}
+use mathlib.Core.Path.{◌≡◌, refl, sym, ◌∙◌}
+use mathlib.Core.Bool.{true, false}
+use native.Mathlib.Omega.{arith}
+use Rattle.book_entries.specs.Entries.{entry_at}
 use Rattle.book_entries.specs.Book.{named}
-use Rattle.book_entries.specs.Left.{left}
-use Rattle.book_search.proofs.SearchLaws.{any-holds}
+use Rattle.book_entries.proofs.Places.{inside_of, next_of}
+use Rattle.book_search.proofs.SearchLaws.{told, met, passed, nothing, at-end}
 use Rattle.book_search.proofs.has_name.Goals as goal
 
+pub loop-i-init : goal.loop-i-init
+loop-i-init c = (omega arith, refl)
+
+pub entry_at-requires : goal.entry_at-requires
+entry_at-requires c = inside_of c.args.book.now c.loop-i.i (omega arith)
+
+pub returns-then-is_named : goal.returns-then-is_named
+returns-then-is_named c =
+    let a = c.args in
+    let i = c.loop-i.i in
+    let fits = named a.name.text a.name.size in
+    let e : fits (entry_at a.book.now i) ≡ true = told fits c.is_named.ensures c.entry_at.ensures c.if-is_named.true in
+    sym (c.loop-i.invariant.1 ∙ met (next_of a.book.now i (omega arith)) fits e)
+
+pub loop-i-preserved : goal.loop-i-preserved
+loop-i-preserved c =
+    let a = c.args in
+    let i = c.loop-i.i in
+    let fits = named a.name.text a.name.size in
+    let e : fits (entry_at a.book.now i) ≡ false = told fits c.is_named.ensures c.entry_at.ensures c.if-is_named.false in
+    (omega arith, c.loop-i.invariant.1 ∙ passed (next_of a.book.now i (omega arith)) fits e)
+
 pub returns : goal.returns
-returns c =
-    let fits = named c.args.name.text c.args.name.size in
-    any_from_yields_List fits c.any.new.self _ c.any.result c.any.ensures.ran (YieldsList-from_first (λ x. x) left _ refl) (λ x b q k. search (rules, tests)) ∙ any-holds fits (left c.args.later)
+returns c = let a = c.args in sym (c.loop-i.invariant.1 ∙ nothing (named a.name.text a.name.size) (at-end a.book.now c.loop-i.i (omega arith)))

@@ -1,8 +1,10 @@
--- The entries are orderly if those that are left are.
+-- The entries are orderly if those from i on are.
 use mathlib.Core.Path.{◌≡◌}
+use Prim.Native.Nat.{◌≤◌}
+use lib.ListN.{length}
 use Rattle.book_entries.specs.Book.{orderly, entries}
-use Rattle.book_entries.specs.Left.{left}
+use Rattle.book_entries.proofs.Places.{from}
 use Rattle.book_search.proofs.sound.Given as goal
 
-abbrev pub invariant-loop-e : goal.invariant-loop-e
-invariant-loop-e l = (goal.iterator-loop-e).can_next l.later × (goal.iterator-loop-e).is_finite l.later × (orderly (entries l.book) ≡ orderly (left l.later))
+abbrev pub invariant-loop-i : goal.invariant-loop-i
+invariant-loop-i l = (l.i ≤ l.n) × (l.n ≡ length (entries l.book)) × (orderly (entries l.book) ≡ orderly (from l.book l.i))
