@@ -20,6 +20,7 @@ pub fn octets<'a>(text: &[u8], out: &'a mut [u8]) -> Option<&'a [u8]>
     let n = match text {
         [] => return None,
         b"-" => 0,
+        _ if out.len() * 2 < text.len() => return None,
         _ => hexadecimal::decode(text, out).ok()?,
     };
     Some(&out[..n])
