@@ -5,9 +5,9 @@ use answers::Answer;
 use cpdlc::parse_apdu;
 use hexadecimal::Refusal;
 use line_flow::{Turns, each_line};
-use line_input::input::Input;
+use line_input::input::Source;
 use line_input::parts::Octets;
-use line_output::output::Output;
+use line_output::output::Sink;
 use lines::said::{accepted, refused};
 use std::io::Read;
 
@@ -29,7 +29,7 @@ fn main(rt: HostRuntime) {
 
 impl Turns for Memory {
     // A line with more characters than two an octet of `frame` has no frame that is short enough, whatever they are.
-    fn turn<R: Read>(&mut self, input: &mut Input<R>, output: &mut Output) -> bool {
+    fn turn<R: Read>(&mut self, input: &mut Source<R>, output: &mut Sink) -> bool {
         let mut line = Octets::new(&mut self.frame);
         if !input.next(&mut line) {
             return false;
@@ -43,7 +43,7 @@ impl Turns for Memory {
     }
 }
 
-fn answer(output: &mut Output, frame: &[u8], words: &mut [u64]) {
+fn answer(output: &mut Sink, frame: &[u8], words: &mut [u64]) {
     match parse_apdu(frame, &[0; 128], &[0; 256], words) {
         Answer::Accepted {
             cut,

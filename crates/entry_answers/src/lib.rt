@@ -2,11 +2,11 @@
 #![tactic(auto)]
 
 use answers::Answer;
-use line_output::output::Output;
+use line_output::output::Sink;
 use lines::said::{accepted, labelled, refused};
 use word_pattern::stayed;
 
-pub fn answer(output: &mut Output, a: Answer, words: &[u64]) {
+pub fn answer(output: &mut Sink, a: Answer, words: &[u64]) {
     match a {
         Answer::Accepted {
             cut,
@@ -40,12 +40,12 @@ pub fn answer(output: &mut Output, a: Answer, words: &[u64]) {
 }
 
 // The four numbers of a record, and where its field began.
-fn put_record(output: &mut Output, record: &[u64]) {
+fn put_record(output: &mut Sink, record: &[u64]) {
     for (i, &n) in record.iter().enumerate() {
         labelled(output, if i == 0 { b";" } else { b"," }, n);
     }
 }
 
-fn end(output: &mut Output, clean: bool) {
+fn end(output: &mut Sink, clean: bool) {
     output.put(if clean { b"\n" } else { b" dirty\n" });
 }

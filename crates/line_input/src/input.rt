@@ -1,33 +1,42 @@
 // Lines of standard input, read through lent bytes, so that the memory does not grow with the input.
-ghost use Rattle.std.specs.Prelude.{◌≡◌, ◌≤◌, length};
+ghost use Rattle.std.specs.Prelude.{◌≡◌, ◌≤◌, false, length};
 
 use super::parts::Parts;
 use std::io::Read;
 
-const NEWLINE: u8 = b'\n';
+pub const NEWLINE: u8 = b'\n';
 
 // The lent bytes from `at` to `end` are read and not yet taken. After a read that failed nothing more is read, and standard error has said so. `failed` stays a flag: nothing beside it holds by it alone.
-#[derive(Drop)]
-pub struct Input<'a, R: Read> {
-    stdin: &'a mut R,
-    space: &'a mut [u8],
+#[derive(Clone, Copy)]
+pub struct Input {
     pub at: usize,
     pub end: usize,
-    failed: bool,
-    ghost ordered: { at ≤ end },
-    ghost within: { end ≤ length space.now },
+    pub failed: bool,
 }
 
-impl<'a, R: Read> Input<'a, R> {
-    pub fn new(stdin: &'a mut R, space: &'a mut [u8]) -> Input<'a, R>
-        ensures { result.at ≡ result.end }
+// What is read, the lent bytes that it is read through, and where the reading stands.
+#[derive(Drop)]
+pub struct Source<'a, R: Read> {
+    stdin: &'a mut R,
+    space: &'a mut [u8],
+    pub input: Input,
+    ghost ordered: { input.at ≤ input.end },
+    ghost within: { input.end ≤ length space.now },
+}
+
+impl<'a, R: Read> Source<'a, R> {
+    pub fn new(stdin: &'a mut R, space: &'a mut [u8]) -> Source<'a, R>
+        ensures empty { result.input.at ≡ result.input.end }
+        ensures sound { result.input.failed ≡ false }
     {
-        Input {
+        Source {
             stdin,
             space,
-            at: 0,
-            end: 0,
-            failed: false,
+            input: Input {
+                at: 0,
+                end: 0,
+                failed: false,
+            },
         }
     }
 
@@ -37,8 +46,8 @@ impl<'a, R: Read> Input<'a, R> {
         // Nothing says that a line ends: its parts are fewer than any run counts.
         for _ in 0..u64::MAX {
             self.fill();
-            if self.at == self.end {
-                return any && !self.failed;
+            if self.input.at == self.input.end {
+                return any && !self.input.failed;
             }
             any = true;
             if self.part(line) {
@@ -50,16 +59,16 @@ impl<'a, R: Read> Input<'a, R> {
 
     // What is there of the line; whether it ends there.
     fn part<P: Parts>(&mut self, line: &mut P) -> bool {
-        let waiting = &self.space[self.at..self.end];
+        let waiting = &self.space[self.input.at..self.input.end];
         match waiting.iter().position(|b| *b == NEWLINE) {
             Some(n) => {
                 line.add(&waiting[..n]);
-                self.at += n + 1;
+                self.input.at += n + 1;
                 true
             }
             None => {
                 line.add(waiting);
-                self.at = self.end;
+                self.input.at = self.input.end;
                 false
             }
         }
@@ -67,16 +76,16 @@ impl<'a, R: Read> Input<'a, R> {
 
     // Reads once where nothing is left; what is then empty is at its end.
     fn fill(&mut self) {
-        if self.at < self.end || self.failed {
+        if self.input.at < self.input.end || self.input.failed {
             return;
         }
-        self.at = 0;
-        self.end = 0;
+        self.input.at = 0;
+        self.input.end = 0;
         match self.stdin.read(self.space) {
-            Ok(got) => self.end = got,
+            Ok(got) => self.input.end = got,
             Err(_) => {
                 io::write_all(2, b"standard input: a read failed\n");
-                self.failed = true;
+                self.input.failed = true;
             }
         }
     }

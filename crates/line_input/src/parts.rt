@@ -1,5 +1,5 @@
 // What a line is put into as it is read, a part after another.
-ghost use Rattle.std.specs.Prelude.{◌≡◌, ◌≤◌, ◌*◌, true, List, [], ◌++◌, ℕ, length, Some, Err, IfSome, IfOk, IfErr, IsNone, ◌↔◌};
+ghost use Rattle.std.specs.Prelude.{◌≡◌, ◌≤◌, ◌*◌, true, false, List, [], ◌++◌, ℕ, length, Some, Err, IfSome, IfOk, IfErr, IsNone, ◌↔◌};
 ghost use Rattle.hexadecimal.specs.Hex.{octets, Decodes};
 
 use hexadecimal::Refusal;
@@ -26,7 +26,8 @@ impl<'a> Bytes<'a> {
     ghost use Rattle.line_input.specs.Parts.{Holds};
 
     pub fn new(space: &'a mut [u8]) -> Bytes<'a>
-        ensures { Holds [] result }
+        ensures empty { Holds [] result }
+        ensures short { result.long ≡ false }
     {
         Bytes {
             space,

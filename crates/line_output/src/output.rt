@@ -1,47 +1,56 @@
 // Standard output, gathered in lent bytes. After a write that fails nothing more is written, and standard error has said so.
-ghost use Rattle.std.specs.Prelude.{◌≡◌, ◌≤◌, length};
+ghost use Rattle.std.specs.Prelude.{◌≡◌, ◌≤◌, false, length};
 
-// The first `len` of the lent bytes are not written yet. `failed` stays a flag: nothing beside it holds by it alone.
-#[derive(Drop)]
-pub struct Output<'a> {
-    space: &'a mut [u8],
+// How many of the lent bytes, the first ones, are not written yet, and whether a write failed. `failed` stays a flag: nothing beside it holds by it alone.
+#[derive(Clone, Copy)]
+pub struct Output {
     pub len: usize,
     pub failed: bool,
-    ghost gathered: { len ≤ length space.now },
 }
 
-impl<'a> Output<'a> {
-    pub fn new(space: &'a mut [u8]) -> Output<'a>
-        ensures { result.len ≡ 0 }
+// The lent bytes in which output is gathered, and where the writing stands.
+#[derive(Drop)]
+pub struct Sink<'a> {
+    space: &'a mut [u8],
+    pub output: Output,
+    ghost gathered: { output.len ≤ length space.now },
+}
+
+impl<'a> Sink<'a> {
+    pub fn new(space: &'a mut [u8]) -> Sink<'a>
+        ensures empty { result.output.len ≡ 0 }
+        ensures sound { result.output.failed ≡ false }
     {
-        Output {
+        Sink {
             space,
-            len: 0,
-            failed: false,
+            output: Output {
+                len: 0,
+                failed: false,
+            },
         }
     }
 
     // What is gathered is written.
     pub fn flush(&mut self)
-        ensures { self.new.len ≡ 0 }
+        ensures { self.new.output.len ≡ 0 }
     {
-        let len = self.len;
-        self.len = 0;
-        if !self.failed {
-            self.failed = !written(&self.space[..len]);
+        let len = self.output.len;
+        self.output.len = 0;
+        if !self.output.failed {
+            self.output.failed = !written(&self.space[..len]);
         }
     }
 
     pub fn put(&mut self, text: &[u8]) {
-        if self.space.len() - self.len < text.len() {
+        if self.space.len() - self.output.len < text.len() {
             self.flush();
         }
-        let len = self.len;
+        let len = self.output.len;
         if text.len() <= self.space.len() {
             self.space[len..len + text.len()].copy_from_slice(text);
-            self.len = len + text.len();
-        } else if !self.failed {
-            self.failed = !written(text);
+            self.output.len = len + text.len();
+        } else if !self.output.failed {
+            self.output.failed = !written(text);
         }
     }
 

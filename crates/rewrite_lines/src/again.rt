@@ -4,14 +4,14 @@ use answers::Answer;
 use entry_cases::case::Case;
 use entry_names::Entry;
 use fixture_writer::write_message;
-use line_output::output::Output;
+use line_output::output::Sink;
 use lines::said::labelled;
 
 // The tables of messages that have no elements.
 const NO_ELEMENTS: [u8; 1] = [0];
 
 // All the words are lent to the entry.
-pub fn heard(output: &mut Output, case: Case, words: &mut [u64], written: &mut [u8]) {
+pub fn heard(output: &mut Sink, case: Case, words: &mut [u64], written: &mut [u8]) {
     match entry_calls::call(
         case.entry,
         case.direction,
@@ -31,7 +31,7 @@ pub fn heard(output: &mut Output, case: Case, words: &mut [u64], written: &mut [
 }
 
 // A clean message, written as the entry's kind and direction; `apdu` leaves the direction open.
-fn message(output: &mut Output, case: Case, reach: usize, records: &[u64], written: &mut [u8]) {
+fn message(output: &mut Sink, case: Case, reach: usize, records: &[u64], written: &mut [u8]) {
     let none = &NO_ELEMENTS;
     let w = match case.entry {
         Entry::Apdu => return not_clean(output),
@@ -56,11 +56,11 @@ fn message(output: &mut Output, case: Case, reach: usize, records: &[u64], writt
     }
 }
 
-fn told(output: &mut Output, label: &[u8], n: u64) {
+fn told(output: &mut Sink, label: &[u8], n: u64) {
     labelled(output, label, n);
     output.put(b"\n");
 }
 
-fn not_clean(output: &mut Output) {
+fn not_clean(output: &mut Sink) {
     output.put(b"not clean\n");
 }

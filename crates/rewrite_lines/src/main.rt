@@ -3,9 +3,9 @@
 
 use entry_cases::case::read;
 use line_flow::{Turns, each_line};
-use line_input::input::Input;
+use line_input::input::Source;
 use line_input::parts::Bytes;
-use line_output::output::Output;
+use line_output::output::Sink;
 use std::io::Read;
 
 mod again; // again.rt: the records of a frame written again
@@ -36,7 +36,7 @@ fn main(rt: HostRuntime) {
 }
 
 impl Turns for Memory {
-    fn turn<R: Read>(&mut self, input: &mut Input<R>, output: &mut Output) -> bool {
+    fn turn<R: Read>(&mut self, input: &mut Source<R>, output: &mut Sink) -> bool {
         let mut line = Bytes::new(&mut self.line);
         if !input.next(&mut line) {
             return false;
@@ -58,7 +58,7 @@ impl Turns for Memory {
 }
 
 fn answer(
-    output: &mut Output,
+    output: &mut Sink,
     line: &[u8],
     down: &mut [u8],
     up: &mut [u8],

@@ -2,9 +2,9 @@
 #![tactic(auto)]
 
 use line_flow::{Turns, each_line};
-use line_input::input::Input;
+use line_input::input::Source;
 use line_input::parts::Bytes;
-use line_output::output::Output;
+use line_output::output::Sink;
 use lines::said::labelled;
 use screen::screen_lines;
 use std::io::Read;
@@ -36,7 +36,7 @@ fn main(rt: HostRuntime) {
 }
 
 impl Turns for Memory {
-    fn turn<R: Read>(&mut self, input: &mut Input<R>, output: &mut Output) -> bool {
+    fn turn<R: Read>(&mut self, input: &mut Source<R>, output: &mut Sink) -> bool {
         let mut line = Bytes::new(&mut self.line);
         if !input.next(&mut line) {
             return false;
@@ -57,7 +57,7 @@ impl Turns for Memory {
 }
 
 fn answer(
-    output: &mut Output,
+    output: &mut Sink,
     line: &[u8],
     down: &mut [u8],
     up: &mut [u8],
@@ -70,7 +70,7 @@ fn answer(
     }
 }
 
-fn show(output: &mut Output, asked: Asked, text: &mut [u8]) {
+fn show(output: &mut Sink, asked: Asked, text: &mut [u8]) {
     match screen_lines(asked.words, asked.down, asked.up, text) {
         Ok(bytes) => {
             labelled(output, b"shown ", bytes as u64);
