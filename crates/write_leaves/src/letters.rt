@@ -29,5 +29,5 @@ pub fn write_letters(
     if c < 256 {
         return write_text(records, out, p, element, tag, n, c, lo, hi);
     }
-    write_channel(records, out, p, element, tag, c - 256)
+    write_channel(records, out, Ok(p), element, tag, c - 256)
 }

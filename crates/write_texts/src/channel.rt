@@ -2,24 +2,26 @@
 ghost use Rattle.std.specs.Prelude.{◌≡◌, false, ℕ, ◌+◌, ◌*◌, ◌^◌, ◌≤◌, ◌<◌, length, get_or};
 ghost use Rattle.atn.specs.Format.{text, numeric};
 ghost use Rattle.record_lists.specs.Kinds.{span_tag};
-ghost use Rattle.pens.specs.Stand.{before, after};
+ghost use Rattle.pens.specs.Stand.{after};
 ghost use Rattle.pens.specs.Writes.{Part};
 
 use super::write_text;
 use numeric_strings::spaced_eight;
 use pens::{Pen, Records, Refused, take};
 
+// p is what the step before gave: behind a refusal this refuses too.
 pub fn write_channel(
     records: Records,
     out: &mut [u8],
-    p: Pen,
+    p: Result<Pen, Refused>,
     element: u64,
     tag: u64,
     x691: u64,
 ) -> Result<Pen, Refused>
     requires { (span_tag tag ≡ false) × (span_tag x691 ≡ false) }
-    ensures { (b : ℕ → ℕ) (y : ℕ) → Part (text tag 11 (numeric x691) 12 12) (element, y) b records.entry.words.now records.entry.len (before p) out.old (after result) out.new }
+    ensures { (b : ℕ → ℕ) (y : ℕ) → Part (text tag 11 (numeric x691) 12 12) (element, y) b records.entry.words.now records.entry.len (after p) out.old (after result) out.new }
 {
+    let p = p?;
     let i = p.next;
     let front = spaced_eight(value_behind(records, i, 0));
     let back = spaced_eight(value_behind(records, i, 1));
