@@ -39,7 +39,7 @@ pub fn read<'a>(
         return None;
     }
     let entry = named(name)?;
-    let direction = direction(way, has_direction(entry))?;
+    let direction = direction(way, has_direction(Some(entry)))?;
     let room = number(room)? as usize;
     if most < room {
         return None;

@@ -69,7 +69,7 @@ fn answer(
 fn heard(output: &mut Sink, case: Case, words: &mut [u64]) {
     word_pattern::fill(words);
     let a = entry_calls::call(
-        case.entry,
+        Some(case.entry),
         case.direction,
         case.down,
         case.up,

@@ -23,8 +23,9 @@ Names s (Some Cm) = s ≡ cm
 Names s (Some Acse) = s ≡ acse
 Names s None = (s ≡ apdu → ⊥) × (s ≡ pdus → ⊥) × (s ≡ cm → ⊥) × (s ≡ acse → ⊥)
 
-abbrev pub is_directed : Entry → Bool
-is_directed Apdu = false
-is_directed Pdus = true
-is_directed Cm = true
-is_directed Acse = false
+abbrev pub is_directed : Option Entry → Bool
+is_directed (Some Apdu) = false
+is_directed (Some Pdus) = true
+is_directed (Some Cm) = true
+is_directed (Some Acse) = false
+is_directed None = false

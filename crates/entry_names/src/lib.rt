@@ -24,9 +24,9 @@ pub fn named(name: &[u8]) -> Option<Entry>
     }
 }
 
-// Whether a case has to name a direction.
-pub fn has_direction(e: Entry) -> bool
+// Whether a case has to name a direction; what names no entry has none.
+pub fn has_direction(e: Option<Entry>) -> bool
     ensures { result ≡ is_directed e }
 {
-    matches!(e, Entry::Pdus | Entry::Cm)
+    matches!(e, Some(Entry::Pdus | Entry::Cm))
 }

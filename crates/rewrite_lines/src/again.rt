@@ -13,7 +13,7 @@ const NO_ELEMENTS: [u8; 1] = [0];
 // All the words are lent to the entry.
 pub fn heard(output: &mut Sink, case: Case, words: &mut [u64], written: &mut [u8]) {
     match entry_calls::call(
-        case.entry,
+        Some(case.entry),
         case.direction,
         case.down,
         case.up,
