@@ -37,7 +37,7 @@ module _ {s : List ℕ} {c : Cursor} (g : Got ℕ) (p : Pulls s c 2 g) where
         held = tt;
       }
 
-  pub frequency-channel : (r : Got Text) → 3 ≤ g.v → Channel s g.c r → Frequencies s c (record { v = frequency.Channel c.at r.v; c = r.c })
+  pub frequency-channel : (r : Got Text) → 3 ≤ g.v → Channel s g.c r → Frequencies s c (record { v = frequency.Channel 3 c.at r.v; c = r.c })
   unfolding read_choice frequency_recs lowest highest width width_in encoding.highest count
   frequency-channel r l h =
       record {

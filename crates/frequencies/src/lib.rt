@@ -8,7 +8,7 @@ use cursor::place::{Cursor, Got, bits};
 use field_ranges::table::{FREQUENCY_0, range_at};
 use ranged_numbers::ranged;
 
-// Each with the place of its kind: a number, which has a kind below 3 and starts at `number_at`, or the digits of a channel, which is kind 3.
+// Each with its kind and the kind's place: a number, which has a kind below 3 and starts at `number_at`, or the digits of a channel, which is read as kind 3.
 #[derive(Clone, Copy)]
 pub enum Frequency {
     Number {
@@ -18,6 +18,7 @@ pub enum Frequency {
         number_at: usize,
     },
     Channel {
+        kind: u64,
         kind_at: usize,
         digits: Text,
     },
@@ -44,6 +45,7 @@ pub fn read_frequency(s: &[u8], c: Cursor) -> Got<Frequency>
     let satellite = channel(s, index.c);
     Got {
         v: Frequency::Channel {
+            kind: 3,
             kind_at: c.at,
             digits: satellite.v,
         },

@@ -24,11 +24,15 @@ pub fn tell_frequency(words: &mut [u64], n: usize, element: u64, s: &[u8], x: Fr
             let m = emit(words, n, FREQUENCY, element, kind, 0, kind_at);
             emit(words, m, FREQUENCY_NUMBER, element, number, 0, number_at)
         }
-        Frequency::Channel { kind_at, digits } => {
-            let m = emit(words, n, FREQUENCY, element, 3, 0, kind_at);
+        Frequency::Channel {
+            kind,
+            kind_at,
+            digits,
+        } => {
+            let behind = emit(words, n, FREQUENCY, element, kind, 0, kind_at);
             tell_channel(
                 words,
-                m,
+                behind,
                 SATELLITE_CHANNEL,
                 SATELLITE_CHANNEL_X691,
                 element,

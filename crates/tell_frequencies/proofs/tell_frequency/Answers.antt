@@ -9,4 +9,4 @@ returns-in-Number c = rw c.in-Number.is (told-within {j = 2} 5 (omega arith) (to
 
 pub returns-in-Channel : goal.returns-in-Channel
 unfolding frequency_recs
-returns-in-Channel c = rw c.in-Channel.is (told-then c.emit-m-in-Channel.ensures c.tell_channel.ensures)
+returns-in-Channel c = rw c.in-Channel.is (told-then c.emit-behind.ensures c.tell_channel.ensures)
