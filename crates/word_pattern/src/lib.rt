@@ -21,5 +21,10 @@ pub fn stayed(words: &[u64], records: usize) -> bool
     if words.len() / 5 < records {
         return false;
     }
-    (records * 5..words.len()).all(|i| words[i] == FIRST + i as u64)
+    for i in records * 5..words.len() {
+        if words[i] != FIRST + i as u64 {
+            return false;
+        }
+    }
+    true
 }
