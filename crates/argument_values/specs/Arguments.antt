@@ -11,6 +11,7 @@ use Rattle.quantities.specs.Records.{quantity_recs}
 use Rattle.enumerations.specs.Records.{name_recs, triple_recs}
 use Rattle.codes_runways.specs.Records.{code_recs, runway_recs}
 use Rattle.frequencies.specs.Records.{frequency_recs, HeldFrequency}
+use Rattle.frequencies.specs.Readers.{KindRead}
 use Rattle.angles.specs.Angles.{pair_recs}
 use Rattle.named_places.specs.Names.{Held, HeldIfThere, procedure_recs}
 use Rattle.positions.specs.Positions.{HeldPosition, position_recs, departure_recs}
@@ -62,7 +63,13 @@ HeldArgument s (Runway v) = Unit {0}
 HeldArgument s (Coordinates v) = Unit {0}
 HeldArgument s (Departure v) = Held s v.flight × HeldPosition s v.position
 
+-- a channel that was read is kind 3, in an argument too
+abbrev pub FrequencyRead : Argument → Type 0
+FrequencyRead (Frequency v) = KindRead v
+FrequencyRead x = Unit {0}
+
 pub record Arguments (k : ℕ) (s : List ℕ) (c : Cursor) (r : Got Argument) : Type 0 where
   pub reads : Takes (argument_body k) s c r.c (argument_recs s r.v)
   -- whatever was read
   pub held : HeldArgument s r.v
+  pub kind : FrequencyRead r.v

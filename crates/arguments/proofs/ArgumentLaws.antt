@@ -19,7 +19,7 @@ of_byte q h = rw q h
 
 pub nothing : {s : List ℕ} {c : Cursor} → Arguments 0 s c (record { v = Nothing; c = c })
 unfolding argument_body argument_recs HeldArgument
-nothing = record { reads = takes_null; held = tt }
+nothing = record { reads = takes_null; held = tt; kind = tt }
 
 beyond : (k : ℕ) → 17 ≤ k → argument_body k ≡ message.no_reader
 unfolding argument_body
@@ -28,4 +28,4 @@ beyond (suc k) h = get_or-eq_default message.arguments message.no_reader {n = k}
 
 pub no_reader_lem : {k : ℕ} {s : List ℕ} {c d : Cursor} → 17 ≤ k → d ≡ stopped c 5 0 → Arguments k s c (record { v = Nothing; c = d })
 unfolding HeldArgument
-no_reader_lem {k} {s} {c} {d} h q = record { reads = rw (beyond k h) (takes_refuse bad 0 (λ z. omega arith) q); held = tt }
+no_reader_lem {k} {s} {c} {d} h q = record { reads = rw (beyond k h) (takes_refuse bad 0 (λ z. omega arith) q); held = tt; kind = tt }

@@ -35,6 +35,7 @@ module _ {s : List ℕ} {c : Cursor} (g : Got ℕ) (p : Pulls s c 2 g) where
       record {
         reads = y;
         held = tt;
+        kind = tt;
       }
 
   pub frequency-channel : (r : Got Text) → 3 ≤ g.v → Channel s g.c r → Frequencies s c (record { v = frequency.Channel 3 c.at r.v; c = r.c })
@@ -43,4 +44,5 @@ module _ {s : List ℕ} {c : Cursor} (g : Got ℕ) (p : Pulls s c 2 g) where
       record {
         reads = takes_index 57 (rows_then 58 rows.frequency_0 3 behind) 3 _ (record { v = 3; c = g.c }) (pulls_last 2 3 g refl p l) refl (λ x u q. refl) (h.channel 59 73);
         held = record { few = h.few; there = h.held };
+        kind = refl;
       }

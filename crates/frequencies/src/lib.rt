@@ -52,3 +52,43 @@ pub fn read_frequency(s: &[u8], c: Cursor) -> Got<Frequency>
         c: satellite.c,
     }
 }
+
+#[cfg(test)]
+mod tests {
+    use super::*;
+
+    // By X.691 a channel is an index of two bits, 3, and twelve characters of four bits each.
+    const CHANNEL: [u8; 7] = [0xC8, 0xD1, 0x59, 0xE2, 0x68, 0x48, 0xC0];
+
+    fn read(bits: usize) -> Got<Frequency> {
+        let c = Cursor {
+            at: 0,
+            end: bits,
+            why: 0,
+            marks: 0,
+        };
+        read_frequency(&CHANNEL, c)
+    }
+
+    // The kind, if it is a channel's.
+    fn kind(x: Frequency) -> Option<u64> {
+        match x {
+            Frequency::Channel { kind, .. } => Some(kind),
+            Frequency::Number { .. } => None,
+        }
+    }
+
+    #[test]
+    fn a_channel_is_kind_3(rt: HostRuntime) {
+        let channel = read(56);
+        assert_eq!(rt; kind(channel.v), Some(3));
+        assert_eq!(rt; (channel.c.at, channel.c.why), (50, 0));
+    }
+
+    #[test]
+    fn a_channel_that_runs_out_is_kind_3(rt: HostRuntime) {
+        let channel = read(20);
+        assert_eq!(rt; kind(channel.v), Some(3));
+        assert_ne!(rt; channel.c.why, 0);
+    }
+}

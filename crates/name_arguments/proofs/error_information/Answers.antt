@@ -5,4 +5,4 @@ use Rattle.name_arguments.proofs.error_information.Goals as goal
 
 pub returns : goal.returns
 unfolding argument_body argument_recs HeldArgument highest
-returns c = rw (got_is c.map.ensures.value c.map.ensures.place) (record { reads = c.read_error_information.ensures.reads 63; held = tt })
+returns c = rw (got_is c.map.ensures.value c.map.ensures.place) (record { reads = c.read_error_information.ensures.reads 63; held = tt; kind = tt })

@@ -4,4 +4,4 @@ use Rattle.name_arguments.proofs.speed_types.Goals as goal
 
 pub returns : goal.returns
 unfolding argument_body argument_recs HeldArgument
-returns c = rw (got_is c.map.ensures.value c.map.ensures.place) (record { reads = c.read_speed_type_triple.ensures.reads; held = tt })
+returns c = rw (got_is c.map.ensures.value c.map.ensures.place) (record { reads = c.read_speed_type_triple.ensures.reads; held = tt; kind = tt })

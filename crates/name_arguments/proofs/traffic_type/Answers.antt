@@ -5,4 +5,4 @@ use Rattle.name_arguments.proofs.traffic_type.Goals as goal
 
 pub returns : goal.returns
 unfolding argument_body argument_recs HeldArgument highest
-returns c = rw (got_is c.map.ensures.value c.map.ensures.place) (record { reads = c.read_traffic_type.ensures.reads 61; held = tt })
+returns c = rw (got_is c.map.ensures.value c.map.ensures.place) (record { reads = c.read_traffic_type.ensures.reads 61; held = tt; kind = tt })

@@ -4,4 +4,4 @@ use Rattle.number_arguments.proofs.frequency.Goals as goal
 
 pub returns : goal.returns
 unfolding argument_body argument_recs HeldArgument
-returns c = rw (got_is c.map.ensures.value c.map.ensures.place) (record { reads = c.read_frequency.ensures.reads; held = c.read_frequency.ensures.held })
+returns c = rw (got_is c.map.ensures.value c.map.ensures.place) (record { reads = c.read_frequency.ensures.reads; held = c.read_frequency.ensures.held; kind = c.read_frequency.ensures.kind })

@@ -4,4 +4,4 @@ use Rattle.number_arguments.proofs.runway.Goals as goal
 
 pub returns : goal.returns
 unfolding argument_body argument_recs HeldArgument
-returns c = rw (got_is c.map.ensures.value c.map.ensures.place) (record { reads = c.read_runway.ensures.reads 68 69; held = tt })
+returns c = rw (got_is c.map.ensures.value c.map.ensures.place) (record { reads = c.read_runway.ensures.reads 68 69; held = tt; kind = tt })

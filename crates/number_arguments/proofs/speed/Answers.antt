@@ -4,4 +4,4 @@ use Rattle.number_arguments.proofs.speed.Goals as goal
 
 pub returns : goal.returns
 unfolding argument_body argument_recs HeldArgument
-returns c = rw (got_is c.map.ensures.value c.map.ensures.place) (record { reads = c.read_speed.ensures.reads; held = tt })
+returns c = rw (got_is c.map.ensures.value c.map.ensures.place) (record { reads = c.read_speed.ensures.reads; held = tt; kind = tt })

@@ -4,4 +4,4 @@ use Rattle.place_arguments.proofs.position.Goals as goal
 
 pub returns : goal.returns
 unfolding argument_body argument_recs HeldArgument
-returns c = rw (got_is c.map.ensures.value c.map.ensures.place) (record { reads = c.read_position.ensures.reads; held = c.read_position.ensures.held })
+returns c = rw (got_is c.map.ensures.value c.map.ensures.place) (record { reads = c.read_position.ensures.reads; held = c.read_position.ensures.held; kind = tt })

@@ -4,4 +4,4 @@ use Rattle.place_arguments.proofs.procedure.Goals as goal
 
 pub returns : goal.returns
 unfolding argument_body argument_recs HeldArgument
-returns c = rw (got_is c.map.ensures.value c.map.ensures.place) (record { reads = c.read_procedure.ensures.reads 65 66 67; held = (c.read_procedure.ensures.held_name, c.read_procedure.ensures.held_transition) })
+returns c = rw (got_is c.map.ensures.value c.map.ensures.place) (record { reads = c.read_procedure.ensures.reads 65 66 67; held = (c.read_procedure.ensures.held_name, c.read_procedure.ensures.held_transition); kind = tt })
