@@ -63,7 +63,7 @@ HeldArgument s (Runway v) = Unit {0}
 HeldArgument s (Coordinates v) = Unit {0}
 HeldArgument s (Departure v) = Held s v.flight × HeldPosition s v.position
 
--- a channel that was read is kind 3, in an argument too
+-- a channel that was read is kind 3, also as an argument
 abbrev pub FrequencyRead : Argument → Type 0
 FrequencyRead (Frequency v) = KindRead v
 FrequencyRead x = Unit {0}
